@@ -1,0 +1,9 @@
+pub mod Bits
+pub mod Cards
+pub mod Counts
+pub mod Flags
+pub mod Inverse
+pub mod Oddness
+pub mod Sums
+pub mod Table
+pub mod Truth

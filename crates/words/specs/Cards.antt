@@ -1,0 +1,26 @@
+-- Document 01, "Bench cards": the starred cards on words, one table with one test. The terminal's starred cards join them. Assumes nothing.
+use mathlib.Core.Bool.{Bool, true, _&&_}
+use mathlib.Core.List.{List, [], _∷_}
+use Prim.Native.Nat.{ℕ}
+use lib.Dec.{eqb}
+use Rattle.words.specs.Words.{parityOf, commandOf, wordsOf}
+
+-- A word and the parity bit that it needs; a count field and the number of data words that it means.
+pub data Card : Type 0 where
+  needs : ℕ → ℕ → Card
+  means : ℕ → ℕ → Card
+
+unfoldable pub holds : Card → Bool
+holds (needs word parity) = eqb (parityOf word) parity
+holds (means count words) = eqb (wordsOf (commandOf 5 0 2 count)) words
+
+unfoldable pub allHold : List Card → Bool
+allHold [] = true
+allHold (card ∷ rest) = holds card && allHold rest
+
+unfoldable pub wordCards : List Card
+wordCards =
+    needs 0x2842 1  -- "* 2842 needs parity 1"
+    ∷ needs 0x2C42 0  -- "* 2C42 needs 0"
+    ∷ means 0 32  -- "* count 0 is 32"
+    ∷ []

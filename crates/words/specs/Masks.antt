@@ -1,0 +1,8 @@
+-- Document 01, "The terminal": one bit of a legality mask. Assumes nothing.
+use Prim.Native.Nat.{ℕ, _/_, _%_, _^_}
+use mathlib.Core.Bool.{Bool}
+use lib.Dec.{eqb}
+
+-- "bit n of the mask of a subaddress says that count code n is legal"
+unfoldable pub isLegal : ℕ → ℕ → Bool
+isLegal mask code = eqb (mask / 2 ^ code % 2) 1

@@ -1,0 +1,40 @@
+// Parity, and the validity of a word (01 Time and words). Meaning: specs/Words.antt. Refusals: none.
+ghost use mathlib.Core.Path.{_≡_};
+ghost use Rattle.words.specs.Words.{isOdd, parityOf, isValid};
+
+// "sync (1: 0 command/status, 1 data, 2 neither)"
+pub const COMMAND_SYNC: u8 = 0;
+
+pub const DATA_SYNC: u8 = 1;
+
+// Says whether the count of ones among the 16 bits, with the parity bit added, is odd. Every parity test of the card asks this one.
+fn is_odd(word: u16, parity: u8) -> bool
+    ensures answer { λ r. ⌜ r ≡ isOdd word parity ⌝ }
+{
+    let mut ones = parity as u16;
+    let mut place: u16 = 0;
+    while place < 16 {
+        ones += (word >> place) & 1;
+        place += 1;
+    }
+    ones & 1 == 1
+}
+
+// Gives the parity bit that makes the count of ones among all 17 odd.
+// Tables: none. Refusals: none.
+pub fn parity_bit(word: u16) -> u8
+    ensures bit { λ r. ⌜ r ≡ parityOf word ⌝ }
+{
+    if is_odd(word, 0) { 0 } else { 1 }
+}
+
+// Says whether a word is valid, for any numbers.
+// Tables: none. Refusals: none.
+pub fn is_valid(sync: u8, faults: u8, word: u16, parity: u8) -> bool
+    ensures answer { λ r. ⌜ r ≡ isValid sync faults word parity ⌝ }
+{
+    ((sync == COMMAND_SYNC) | (sync == DATA_SYNC))
+        & (faults == 0)
+        & (parity < 2)
+        & is_odd(word, parity)
+}
