@@ -8,12 +8,12 @@ use lib.Dec.{eqb}
 use lib.Pow.{pow-pos, mod-pow-add}
 use borrow.Author.Tests.{eqb-true}
 use Rattle.words.specs.Words.{fieldOf, placedOf, addressOf, transmitOf, subaddressOf, countOf, bitOf, keptOf, flagsOf, statusOf, hasNoOther}
-use Rattle.words.specs.Theorems.{BackToBack, FieldsBuilt, BuiltFields, StatusFieldsBuilt, StatusBuiltFields}
+use Rattle.words.specs.Theorems.{Gaps, FieldsBuilt, BuiltFields, StatusFieldsBuilt, StatusBuiltFields}
 use Rattle.words.specs.declared.statuses.Flag.the-variants.{MessageError, ServiceRequest, BroadcastReceived, Busy, Subsystem, Terminal}
 use Rattle.words.proofs.Truth.{and-both}
 
-pub back-to-back : BackToBack
-back-to-back moment = omega arith
+pub gaps : Gaps
+gaps moment = (omega arith, omega arith, omega arith)
 
 -- ---- command words
 

@@ -36,10 +36,10 @@ is-even word parity h = ne-eqb ((onesIn 16 word + parity) % 2) 1 (λ e. omega ar
 
 -- by whether the word is odd without a parity bit
 one-of : (word : ℕ) (b : Bool) → isOdd word 0 ≡ b
-    → (isOdd word (cond b 0 1) ≡ true) × ((parity : ℕ) → parity < 2 → isOdd word parity ≡ true → parity ≡ cond b 0 1)
-one-of word true h = (h, λ parity below e. omega (arith, odd-is word 0 h, odd-is word parity e))
+    → (cond b 0 1 < 2) × (isOdd word (cond b 0 1) ≡ true) × ((parity : ℕ) → parity < 2 → isOdd word parity ≡ true → parity ≡ cond b 0 1)
+one-of word true h = (omega arith, h, λ parity below e. omega (arith, odd-is word 0 h, odd-is word parity e))
 one-of word false h =
-    (is-odd word 1 (omega (arith, even-is word 0 h)), λ parity below e. omega (arith, even-is word 0 h, odd-is word parity e))
+    (omega arith, is-odd word 1 (omega (arith, even-is word 0 h)), λ parity below e. omega (arith, even-is word 0 h, odd-is word parity e))
 
 pub parity-one : ParityOne
 unfolding parityOf

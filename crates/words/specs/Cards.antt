@@ -1,18 +1,19 @@
--- Document 01, "Bench cards": the starred cards on words, one table with one test. The terminal's starred cards join them. Assumes nothing.
+-- Document 01, "Bench cards": the starred cards on words. The table of all starred cards has a case that holds one of these. Assumes
+-- nothing.
 use mathlib.Core.Bool.{Bool, true, _&&_}
 use mathlib.Core.List.{List, [], _∷_}
 use Prim.Native.Nat.{ℕ}
 use lib.Dec.{eqb}
-use Rattle.words.specs.Words.{parityOf, commandOf, wordsOf}
+use Rattle.words.specs.Words.{addressOf, transmitOf, subaddressOf, commandOf, parityOf, wordsOf}
 
--- A word and the parity bit that it needs; a count field and the number of data words that it means.
+-- A word and the parity bit that it needs; a count field, put into 2842, and the number of data words that it means.
 pub data Card : Type 0 where
   needs : ℕ → ℕ → Card
   means : ℕ → ℕ → Card
 
 unfoldable pub holds : Card → Bool
 holds (needs word parity) = eqb (parityOf word) parity
-holds (means count words) = eqb (wordsOf (commandOf 5 0 2 count)) words
+holds (means count words) = eqb (wordsOf (commandOf (addressOf 0x2842) (transmitOf 0x2842) (subaddressOf 0x2842) count)) words
 
 unfoldable pub allHold : List Card → Bool
 allHold [] = true

@@ -19,7 +19,8 @@ yes = true
 abbrev pub no : Bool
 no = false
 
--- The rows, where document 01 has two codes in a row ("4 / 5") as two rows. (002 table 1; 003 table 7.1 but for its two misprints, docs/SOURCES.md)
+-- The rows, where document 01 has two codes in a row ("4 / 5") as two rows. (002 table 1; 003 table 7.1 but for two misprints, codes 1
+-- and 17, docs/SOURCES.md)
 unfoldable pub rows : List Row
 rows =
     row 0 1 no None  -- "dynamic bus control"
@@ -48,11 +49,12 @@ found t c (row code transmit broadcast word ∷ rest) = cond (eqb code c && eqb 
 unfoldable pub listingOf : ℕ → Listing
 listingOf word = found (transmitOf word) (codeOf word) rows
 
--- The table allows what it lists and, where the command goes to 31, what has "yes" under broadcast.
+-- The table allows what it lists, but where the command goes to 31 only what has "yes" under broadcast.
 unfoldable pub allows : Listing → Bool → Bool
 allows Reserved toAll = false
 allows (Listed broadcast word) toAll = broadcast || not toAll
 
--- "a mode command that the code table does not allow" (01 The terminal), "a mode command as in the code table" (01 Controller verdicts)
+-- "a mode command as in the code table" (01 Controller verdicts). What the terminal leaves out besides, "The terminal holds 20 and 21 ..
+-- illegal", is the terminal's to say.
 unfoldable pub isAllowed : ℕ → Bool
 isAllowed word = allows (listingOf word) (isBroadcast word)

@@ -1,18 +1,22 @@
 -- What holds of words beyond each function's own promise. Each is proved in proofs/ under the name at its side. Assumes nothing.
 use Prim.Native.Nat.{ℕ, zero, suc, _+_, _-_, _/_, _%_, _^_, _<_}
 use mathlib.Core.Path.{_≡_}
-use mathlib.Core.Bool.{Bool, true, false, cond, _&&_, _||_}
+use mathlib.Core.Bool.{Bool, true, false, cond, _||_}
 use lib.Dec.{T, eqb, leb}
-use Rattle.words.specs.Words.{gapOf, wordTicks, backToBackGap, addressOf, transmitOf, subaddressOf, countOf, commandOf, codeOf, isTransmit, bitOf, hasFlag, withFlag, flagsOf, statusOf, hasNoOther, isOdd, parityOf, isValid}
+use Rattle.words.specs.Words.{fieldOf, gapOf, wordTicks, backToBackGap, dueDistance, noResponseDistance, addressOf, transmitOf, subaddressOf, countOf, commandOf, codeOf, isTransmit, bitOf, hasFlag, withFlag, flagsOf, statusOf, hasNoOther, isOdd, parityOf, isValid}
 use Rattle.words.specs.Modes.{rows, found, listingOf}
 use Rattle.words.specs.Cards.{wordCards, allHold}
 use Rattle.words.specs.declared.statuses.Flag.{Flag}
 use Rattle.words.specs.declared.modes.Listing.{Listing}
 use Rattle.words.specs.declared.modes.Listing.the-variants.{Reserved, Listed}
 
--- "so back-to-back words have a gap of 20": back-to-back
-abbrev pub BackToBack : Type 0
-BackToBack = (moment : ℕ) → gapOf moment (moment + wordTicks) ≡ backToBackGap
+-- "so back-to-back words have a gap of 20"; "plus 260, a gap of 80"; "a gap up to 140", which 320 is: gaps
+abbrev pub Gaps : Type 0
+Gaps =
+    (moment : ℕ)
+    → (gapOf moment (moment + wordTicks) ≡ backToBackGap)
+    × (gapOf moment (moment + dueDistance) ≡ 80)
+    × (gapOf moment (moment + noResponseDistance) ≡ 140)
 
 -- The fields of a built command are the parts: fields-built
 abbrev pub FieldsBuilt : Type 0
@@ -37,13 +41,20 @@ StatusFieldsBuilt =
 abbrev pub StatusBuiltFields : Type 0
 StatusBuiltFields = (word : ℕ) → word < 2 ^ 16 → hasNoOther word ≡ true → statusOf (addressOf word) (flagsOf word) ≡ word
 
--- With a flag a word has that flag and those that it had, and no other: flag-alone
+-- With a flag a word has that flag, and each other bit, flag or not, is as it was: flag-alone
 abbrev pub FlagAlone : Type 0
-FlagAlone = (flag other : Flag) (word : ℕ) → hasFlag other (withFlag flag word) ≡ (hasFlag other word || hasFlag other (bitOf flag))
+FlagAlone =
+    (flag : Flag) (word : ℕ)
+    → (hasFlag flag (withFlag flag word) ≡ true)
+    × ((place : ℕ) → (2 ^ place ≡ bitOf flag → ⊥) → fieldOf place 1 (withFlag flag word) ≡ fieldOf place 1 word)
 
 -- Exactly one parity bit makes a word odd, the one that is given: parity-one
 abbrev pub ParityOne : Type 0
-ParityOne = (word : ℕ) → (isOdd word (parityOf word) ≡ true) × ((parity : ℕ) → parity < 2 → isOdd word parity ≡ true → parity ≡ parityOf word)
+ParityOne =
+    (word : ℕ)
+    → (parityOf word < 2)
+    × (isOdd word (parityOf word) ≡ true)
+    × ((parity : ℕ) → parity < 2 → isOdd word parity ≡ true → parity ≡ parityOf word)
 
 -- A word with one of its bits turned.
 unfoldable pub turned : ℕ → ℕ → ℕ
@@ -69,7 +80,7 @@ howMany (suc n) test = cond (test n) 1 0 + howMany n test
 abbrev pub FifteenListed : Type 0
 FifteenListed = howMany 64 (λ (i : ℕ). isListed (found (i / 32) (i % 32) rows)) ≡ 15
 
--- And no mode command but with these: only-listed
+-- It lists the codes 0 to 8, 16, 18 and 19 with T/R 1, and 17, 20 and 21 with T/R 0, and no other: only-listed
 abbrev pub OnlyListed : Type 0
 OnlyListed =
     (word : ℕ)

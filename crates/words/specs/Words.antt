@@ -1,5 +1,6 @@
--- Document 01, "Time and words", sentence by sentence. Moments, ticks and words are plain numbers here, a word's below 2 ^ 16.
--- Assumes nothing.
+-- Document 01, "Time and words", sentence by sentence. Moments, lengths of time and words are plain numbers here; "A moment and a length
+-- of time must not be mixable by mistake, and neither must a command word and a status word" is kept by the types of the code. A word is
+-- below 2 ^ 16. Assumes nothing.
 use Prim.Native.Nat.{ℕ, _+_, _-_, _*_, _/_, _%_, _^_}
 use mathlib.Core.Bool.{Bool, cond, _&&_, _||_}
 use lib.Dec.{eqb, ltb, leb}
@@ -13,7 +14,7 @@ use Rattle.words.specs.declared.statuses.Flag.the-variants.{MessageError
 abbrev pub onClock : ℕ → Bool
 onClock moment = ltb moment (2 ^ 48)
 
--- A moment and a length of time. The code holds both in 64 bits: a sum past their last number stays there (house).
+-- A moment plus a length of time. The code holds it in 64 bits: a sum past their last number stays there, far past the clock (house).
 unfoldable pub plusOf : ℕ → ℕ → ℕ
 plusOf moment ticks = cond (ltb (moment + ticks) (2 ^ 64)) (moment + ticks) (2 ^ 64 - 1)
 
@@ -21,7 +22,7 @@ plusOf moment ticks = cond (ltb (moment + ticks) (2 ^ 64)) (moment + ticks) (2 ^
 abbrev pub sinceOf : ℕ → ℕ → ℕ
 sinceOf before after = after - before
 
--- "A word lasts 200 ticks;"
+-- "A word's time is the zero crossing in the middle of its sync. A word lasts 200 ticks;" (003 7.3.3.4)
 abbrev pub wordTicks : ℕ
 wordTicks = 200
 
@@ -29,7 +30,7 @@ wordTicks = 200
 abbrev pub parityMiddle : ℕ
 parityMiddle = 180
 
--- "A gap runs from there to the next word's time," (003 7.3.3.7, 7.3.3.8; 002 2.8)
+-- "A gap runs from there to the next word's time," and is 0 where that is not later (house). (003 7.3.3.7, 7.3.3.8; 002 2.8)
 abbrev pub gapOf : ℕ → ℕ → ℕ
 gapOf before after = sinceOf (before + parityMiddle) after
 
@@ -53,13 +54,14 @@ isSpaced before after = leb spacingLeast (sinceOf before after) && leb (sinceOf 
 abbrev pub dueDistance : ℕ
 dueDistance = 260
 
--- "no response if Q is at least 320 past the last word" (01 Controller verdicts; 003 7.3.3.9, 002 2.8.2)
-abbrev pub noResponse : ℕ
-noResponse = 320
+-- "no response if Q is at least 320 past the last word .." (01 Controller verdicts; 003 7.3.3.9, 002 2.8.2)
+abbrev pub noResponseDistance : ℕ
+noResponseDistance = 320
 
 -- ---- words
 
--- "A word has 16 bits, first bit highest,": the field of that width whose lowest bit has the weight 2 ^ place.
+-- "A word has 16 bits, first bit highest,": the field of that width whose lowest bit has the weight 2 ^ place. (003 7.3.2, 7.3.3.4;
+-- 002 2.3.1, 2.3.2)
 abbrev pub fieldOf : ℕ → ℕ → ℕ → ℕ
 fieldOf place width word = word / 2 ^ place % 2 ^ width
 
@@ -102,7 +104,7 @@ wordsOf word = cond (eqb (countOf word) 0) 32 (countOf word)
 unfoldable pub isMode : ℕ → Bool
 isMode word = eqb (subaddressOf word) 0 || eqb (subaddressOf word) 31
 
--- "and the count field is its code."
+-- "and the count field is its code." (003 7.3.3.5.1.7, 002 2.4.7)
 abbrev pub codeOf : ℕ → ℕ
 codeOf word = countOf word
 
@@ -113,7 +115,7 @@ isTransmit word = eqb (transmitOf word) 1
 -- ---- status words
 
 -- "Status: address (5), message error 0400, .. service request 0100, .. broadcast received 0010, busy 0008, subsystem flag 0004, ..
--- terminal flag 0001 (hexadecimal)." The address is `addressOf`. (003 7.3.3.5.3, 002 2.6.3)
+-- terminal flag 0001 (hexadecimal)." The address is `addressOf`. (003 7.3.3.5.3, 002 2.6)
 abbrev pub bitOf : Flag → ℕ
 bitOf MessageError = 0x0400
 bitOf ServiceRequest = 0x0100
@@ -122,9 +124,10 @@ bitOf Busy = 0x0008
 bitOf Subsystem = 0x0004
 bitOf Terminal = 0x0001
 
--- "instrumentation 0200 (always 0), .. reserved 00E0 (0), .. bus control acceptance 0002 (always 0, house)"
+-- "instrumentation 0200 (always 0), .. reserved 00E0 (0), .. bus control acceptance 0002 (always 0, house)": 00E0 is three bits from
+-- 0020. (003 7.3.3.5.3.4, 7.3.3.5.3.6, 7.3.3.5.3.10; 002 2.6.3.2)
 abbrev pub hasNoOther : ℕ → Bool
-hasNoOther word = eqb (fieldOf 9 1 word) 0 && eqb (fieldOf 5 3 word) 0 && eqb (fieldOf 1 1 word) 0
+hasNoOther word = eqb (word / 0x0200 % 2) 0 && eqb (word / 0x0020 % 8) 0 && eqb (word / 0x0002 % 2) 0
 
 -- The word has the flag.
 unfoldable pub hasFlag : Flag → ℕ → Bool
@@ -154,7 +157,14 @@ statusOf address flags = placedOf 11 5 address + flagsOf flags
 abbrev pub isBroadcast : ℕ → Bool
 isBroadcast word = eqb (addressOf word) 31
 
--- "A word is valid if its sync is one of the two shapes, no receiver fault is marked and parity is odd." The numbers are those of a record:
--- "sync (1: 0 command/status, 1 data, 2 neither), receiver faults (1: .., 0 none)". A parity bit is 0 or 1. (003 7.4.1.1, 002 3.1)
+-- "sync (1: 0 command/status, 1 data, 2 neither)" (01 Word records on file)
+abbrev pub commandSync : ℕ
+commandSync = 0
+
+abbrev pub dataSync : ℕ
+dataSync = 1
+
+-- "A word is valid if its sync is one of the two shapes, no receiver fault is marked and parity is odd." A parity bit is 0 or 1; C may hand
+-- over any number. (003 7.4.1.1, 002 3.1)
 unfoldable pub isValid : ℕ → ℕ → ℕ → ℕ → Bool
-isValid sync faults word parity = (eqb sync 0 || eqb sync 1) && eqb faults 0 && ltb parity 2 && isOdd word parity
+isValid sync faults word parity = (eqb sync commandSync || eqb sync dataSync) && eqb faults 0 && ltb parity 2 && isOdd word parity

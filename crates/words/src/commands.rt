@@ -4,7 +4,7 @@ ghost use Rattle.words.specs.Words.{addressOf, transmitOf, subaddressOf,
 use crate::fields::field;
 use crate::fields::placed;
 
-// A word read as a command. It is no status word, and neither stands in for the other.
+// A word read as a command: "neither must a command word and a status word" be mixable.
 pub struct CommandWord(pub u16);
 
 impl CommandWord {
@@ -56,7 +56,7 @@ impl CommandWord {
         field(self.0, 0, 5)
     }
 
-    // Gives how many data words the count field asks for, 1 to 32.
+    // Gives how many data words the count field asks for, 1 to 32: "Count 0 means 32."
     // Tables: none. Refusals: none.
     pub fn words(self) -> u16
         ensures count { λ r. ⌜ r ≡ wordsOf (self .0) ⌝ }
@@ -65,7 +65,7 @@ impl CommandWord {
         if count == 0 { 32 } else { count }
     }
 
-    // Says whether the terminal transmits.
+    // Says whether the terminal transmits: "T/R 1 means the terminal transmits."
     // Tables: none. Refusals: none.
     pub fn is_transmit(self) -> bool
         ensures answer { λ r. ⌜ r ≡ isTransmit (self .0) ⌝ }
@@ -81,7 +81,7 @@ impl CommandWord {
         self.address() == Self::BROADCAST
     }
 
-    // Says whether it is a mode command. Every mode test of the card asks this one.
+    // Says whether it is a mode command: "Subaddress 0 or 31 marks a mode command". Every mode test of the card asks this one.
     // Tables: none. Refusals: none.
     pub fn is_mode(self) -> bool
         ensures answer { λ r. ⌜ r ≡ isMode (self .0) ⌝ }

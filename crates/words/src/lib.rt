@@ -1,5 +1,6 @@
 // The words of the bus: moments and distances, command and status words, parity, spacing, mode codes, refusal numbers
-// (01 Time and words; Mode codes; Numbers for a refused call). Wire level: knows no state and reads no bytes.
+// (01 Time and words; Mode codes; Numbers for a refused call; and what later sections ask of a word). Meaning: specs/. Refusals: none.
+// It knows no state and reads no bytes.
 mod commands;
 mod fields;
 mod masks;
@@ -10,7 +11,7 @@ mod statuses;
 mod times;
 
 pub use commands::CommandWord;
-pub use masks::is_legal;
+pub use masks::mask_allows;
 pub use modes::Listing;
 pub use modes::ModeWord;
 pub use modes::is_allowed;

@@ -17,9 +17,13 @@ pub enum Listing {
     Listed { broadcast: bool, word: ModeWord },
 }
 
-// The rows by T/R and code, 32 codes for each T/R. '.' is reserved; 'n' and 'b' have no data word, 's' one sent, 'r' one received;
-// 'b' and 'r' may be broadcast.
-const ROWS: [u8; 64] = *b".................r..rr..........nbnbbbbbb.......s.ss............";
+// The table by T/R bit and code: T/R 0 with the codes 0 to 15 and 16 to 31, then T/R 1. '.' is reserved; 'n' and 'b' have no data word,
+// 's' has one sent, 'r' one received; 'b' and 'r' may be broadcast.
+const ROWS: [u8; 64] = *b"\
+................\
+.r..rr..........\
+nbnbbbbbb.......\
+s.ss............";
 
 // Gives what the table says of the T/R bit and the code of a mode command.
 // Tables: none. Refusals: none.
@@ -48,7 +52,7 @@ pub fn look_up(command: CommandWord) -> Listing
     }
 }
 
-// Says whether the table allows the mode command: it is listed, and where it goes to 31, for broadcast too.
+// Says whether the table allows the mode command: it is listed and, where it goes to 31, listed for broadcast. So are 20 and 21.
 // Tables: none. Refusals: none.
 pub fn is_allowed(command: CommandWord) -> bool
     ensures answer { λ r. ⌜ r ≡ isAllowed (command .0) ⌝ }

@@ -1,4 +1,4 @@
-// Parity, and the validity of a word (01 Time and words). Meaning: specs/Words.antt. Refusals: none.
+// Parity, and the validity of a word (01 Time and words; the syncs of Word records on file). Meaning: specs/Words.antt. Refusals: none.
 ghost use mathlib.Core.Path.{_≡_};
 ghost use Rattle.words.specs.Words.{isOdd, parityOf, isValid};
 
@@ -28,7 +28,7 @@ pub fn parity_bit(word: u16) -> u8
     if is_odd(word, 0) { 0 } else { 1 }
 }
 
-// Says whether a word is valid, for any numbers.
+// Says whether a word is valid; any number may be handed over.
 // Tables: none. Refusals: none.
 pub fn is_valid(sync: u8, faults: u8, word: u16, parity: u8) -> bool
     ensures answer { λ r. ⌜ r ≡ isValid sync faults word parity ⌝ }

@@ -2,12 +2,13 @@
 // Meaning: specs/Refusals.antt.
 ghost use mathlib.Core.Path.{_≡_};
 ghost use mathlib.Core.List.{[], _∷_};
-ghost use Rattle.words.specs.Refusals.{tableSize, ownAddress, shortRecord, recordLength, outOfRange, outOfOrder, impossiblePlan, wrongVersion, noRoom};
+ghost use Rattle.words.specs.Refusals.{notRefused, refusedTableSize, refusedOwnAddress, refusedShortRecord, refusedRecordLength, refusedOutOfRange, refusedOutOfOrder, refusedImpossiblePlan, refusedWrongVersion, refusedNoRoom};
 
 // The number of a refusal, 0 where the call was not refused.
 pub struct Refusal(pub u8);
 
 impl Refusal {
+    // no refusal
     pub const NONE: Refusal = Refusal(0);
     // "a lent word table is not 1,024 words, a lent mask table not 32 masks"
     pub const TABLE_SIZE: Refusal = Refusal(1);
@@ -30,10 +31,11 @@ impl Refusal {
 }
 
 // Gives the numbers above. Nothing calls it: its promise holds each to the definition that contracts cite.
-fn named() -> [u8; 9]
-    ensures all { λ r. ⌜ r ≡ tableSize ∷ ownAddress ∷ shortRecord ∷ recordLength ∷ outOfRange ∷ outOfOrder ∷ impossiblePlan ∷ wrongVersion ∷ noRoom ∷ [] ⌝ }
+fn list_numbers() -> [u8; 10]
+    ensures all { λ r. ⌜ r ≡ notRefused ∷ refusedTableSize ∷ refusedOwnAddress ∷ refusedShortRecord ∷ refusedRecordLength ∷ refusedOutOfRange ∷ refusedOutOfOrder ∷ refusedImpossiblePlan ∷ refusedWrongVersion ∷ refusedNoRoom ∷ [] ⌝ }
 {
     [
+        Refusal::NONE.0,
         Refusal::TABLE_SIZE.0,
         Refusal::OWN_ADDRESS.0,
         Refusal::SHORT_RECORD.0,

@@ -1,12 +1,10 @@
 // Status words built and read (01 Time and words). Meaning: specs/Words.antt. Refusals: none.
 ghost use mathlib.Core.Path.{_≡_};
-ghost use lib.Dec.{T};
-ghost use Rattle.words.specs.Words.{addressOf};
-ghost use Rattle.words.specs.Words.{bitOf, hasFlag, withFlag, flagsOf, statusOf};
+ghost use Rattle.words.specs.Words.{addressOf, bitOf, hasFlag, withFlag, flagsOf, statusOf};
 use crate::fields::field;
 use crate::fields::placed;
 
-// A word read as a status. It is no command word, and neither stands in for the other.
+// A word read as a status: "neither must a command word and a status word" be mixable.
 pub struct StatusWord(pub u16);
 
 // The flags that the card sets. Instrumentation, the reserved bits and bus control acceptance are not among them.
@@ -20,7 +18,8 @@ pub enum Flag {
 }
 
 impl Flag {
-    // Gives the flag's bit, as document 01 writes it.
+    // Gives the flag's bit: "message error 0400, .. service request 0100, .. broadcast received 0010, busy 0008, subsystem flag 0004, ..
+    // terminal flag 0001 (hexadecimal)".
     // Tables: none. Refusals: none.
     pub fn bit(self) -> u16
         ensures bit { λ r. ⌜ r ≡ bitOf self ⌝ }
@@ -45,7 +44,8 @@ impl StatusWord {
     pub fn build(address: u16, flags: u16) -> StatusWord
         ensures word { λ r. ⌜ r .0 ≡ statusOf address flags ⌝ }
     {
-        StatusWord(placed(address, 11, 5) | (flags & Self::FLAGS))
+        let among = StatusWord(flags);
+        StatusWord(placed(address, 11, 5) | among.flags())
     }
 
     // Gives the address field, 0 to 31.

@@ -1,10 +1,11 @@
-// Moments, distances between them, gaps and spacing (01 Time and words). Meaning: specs/Words.antt. Refusals: none.
+// Moments, lengths of time, gaps and spacing (01 Time and words; distances also of The terminal and Controller verdicts). Meaning:
+// specs/Words.antt. Refusals: none. "A moment and a length of time must not be mixable by mistake": two types.
 ghost use mathlib.Core.Path.{_≡_};
 ghost use mathlib.Core.List.{[], _∷_};
 ghost use Rattle.words.specs.Words.{onClock, plusOf, sinceOf, gapOf, isSpaced};
-ghost use Rattle.words.specs.Words.{wordTicks, parityMiddle, backToBackGap, spacingLeast, spacingMost, dueDistance, noResponse};
+ghost use Rattle.words.specs.Words.{wordTicks, parityMiddle, backToBackGap, spacingLeast, spacingMost, dueDistance, noResponseDistance};
 
-// A moment on the clock, in ticks of 0.1 microsecond. A word's moment is the zero crossing in the middle of its sync.
+// A moment, in "ticks of 0.1 microsecond". "A word's time is the zero crossing in the middle of its sync."
 pub struct Moment(pub u64);
 
 // A length of time, in the same ticks. A moment minus a moment is ticks, a moment plus ticks a moment; nothing else mixes.
@@ -22,14 +23,14 @@ impl Ticks {
 
     pub const SPACING_MOST: Ticks = Ticks(205);
     // "the last word's time plus 260, a gap of 80 (8.0 microseconds ..)"
-    pub const DUE: Ticks = Ticks(260);
-    // "no response if Q is at least 320 past the last word"
-    pub const NO_RESPONSE: Ticks = Ticks(320);
+    pub const DUE_DISTANCE: Ticks = Ticks(260);
+    // "no response if Q is at least 320 past the last word .."
+    pub const NO_RESPONSE_DISTANCE: Ticks = Ticks(320);
 }
 
 // Gives the constants above. Nothing calls it: its promise holds each to the definition that contracts cite.
-fn named() -> [u64; 7]
-    ensures all { λ r. ⌜ r ≡ wordTicks ∷ parityMiddle ∷ backToBackGap ∷ spacingLeast ∷ spacingMost ∷ dueDistance ∷ noResponse ∷ [] ⌝ }
+fn list_distances() -> [u64; 7]
+    ensures all { λ r. ⌜ r ≡ wordTicks ∷ parityMiddle ∷ backToBackGap ∷ spacingLeast ∷ spacingMost ∷ dueDistance ∷ noResponseDistance ∷ [] ⌝ }
 {
     [
         Ticks::WORD.0,
@@ -37,8 +38,8 @@ fn named() -> [u64; 7]
         Ticks::BACK_TO_BACK_GAP.0,
         Ticks::SPACING_LEAST.0,
         Ticks::SPACING_MOST.0,
-        Ticks::DUE.0,
-        Ticks::NO_RESPONSE.0,
+        Ticks::DUE_DISTANCE.0,
+        Ticks::NO_RESPONSE_DISTANCE.0,
     ]
 }
 
@@ -82,7 +83,7 @@ impl Moment {
     }
 }
 
-// Gives the gap between two words: from the middle of the first one's parity bit to the second, 0 where they overlap.
+// Gives the gap between two words, from the middle of the first one's parity bit to the second; 0 where that is not later.
 // Tables: none. Refusals: none.
 pub fn gap(before: Moment, after: Moment) -> Ticks
     ensures distance { λ r. ⌜ r .0 ≡ gapOf (before .0) (after .0) ⌝ }

@@ -3,22 +3,22 @@ use mathlib.Core.Path.{sym, ap}
 use Prim.Native.Nat.{ℕ, _/_, _^_}
 use lib.Dec.{eqb}
 use lib.Bits.{and-mask}
-use Rattle.words.specs.Masks.{isLegal}
+use Rattle.words.specs.Masks.{maskAllows}
 use Rattle.words.proofs.Bits.{bit-past}
 use borrow.Author.Needs.{needs}
-use Rattle.words.proofs.masks.is_legal.Statement.{statement}
-use Rattle.words.proofs.masks.is_legal.Tie as tie
+use Rattle.words.proofs.masks.mask_allows.Statement.{statement}
+use Rattle.words.proofs.masks.mask_allows.Tie as tie
 
 shr-result : tie.Need-shr-result
 shr-result c = search needs
 
 returns : tie.Need-returns
-unfolding isLegal
+unfolding maskAllows
 returns c = rw (and-mask (c .before .args .mask / 2 ^ c .before .args .code) 1)
 
 returns-2 : tie.Need-returns-2
-unfolding isLegal
+unfolding maskAllows
 returns-2 c = rw (bit-past 32 (c .before .args .code) (c .before .args .mask) (search needs) (search needs))
 
-pub is-legal-spec : {M : Type 1} → statement M
-is-legal-spec = tie.close (tie.spec shr-result returns returns-2)
+pub mask-allows-spec : {M : Type 1} → statement M
+mask-allows-spec = tie.close (tie.spec shr-result returns returns-2)

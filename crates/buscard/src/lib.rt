@@ -1,0 +1,135 @@
+// What the C bench program calls (01: "must also be callable from the C bench program on numbers and bytes"). Each function wraps one
+// of `words` and says the same definition. Nothing is allocated, nothing is kept between calls, every call returns for any argument.
+// Types for C: include/buscard.h.
+ghost use mathlib.Core.Path.{_≡_};
+ghost use Rattle.buscard.specs.Answers.{numberOf};
+ghost use Rattle.words.specs.Words.{parityOf, isValid, isSpaced, commandOf, addressOf, transmitOf, subaddressOf, countOf, wordsOf, isMode, statusOf, flagsOf};
+use words::CommandWord;
+use words::Moment;
+use words::StatusWord;
+
+// Gives 1 for yes and 0 for no.
+fn number(answer: bool) -> u8
+    ensures number { λ r. ⌜ r ≡ numberOf answer ⌝ }
+{
+    if answer { 1 } else { 0 }
+}
+
+// Gives the parity bit that makes the 17 bits odd.
+// Tables: none. Refusals: none.
+#[no_mangle]
+pub extern "C" fn bus_word_parity(word: u16) -> u8
+    ensures bit { λ r. ⌜ r ≡ parityOf word ⌝ }
+{
+    words::parity_bit(word)
+}
+
+// Gives 1 if the word is valid, else 0; any number out of range gives 0.
+// Tables: none. Refusals: none.
+#[no_mangle]
+pub extern "C" fn bus_word_valid(sync: u8, faults: u8, word: u16, parity: u8) -> u8
+    ensures answer { λ r. ⌜ r ≡ numberOf (isValid sync faults word parity) ⌝ }
+{
+    number(words::is_valid(sync, faults, word, parity))
+}
+
+// Gives 1 if the second word is 195 to 205 ticks past the first, else 0.
+// Tables: none. Refusals: none.
+#[no_mangle]
+pub extern "C" fn bus_word_spaced(before: u64, after: u64) -> u8
+    ensures answer { λ r. ⌜ r ≡ numberOf (isSpaced before after) ⌝ }
+{
+    number(words::is_spaced(Moment(before), Moment(after)))
+}
+
+// Gives the command word of the low 5, 1, 5 and 5 bits.
+// Tables: none. Refusals: none.
+#[no_mangle]
+pub extern "C" fn bus_command_build(address: u16, transmit: u16, subaddress: u16, count: u16) -> u16
+    ensures word { λ r. ⌜ r ≡ commandOf address transmit subaddress count ⌝ }
+{
+    let built = CommandWord::build(address, transmit, subaddress, count);
+    built.0
+}
+
+// Gives the address field as it stands in the word.
+// Tables: none. Refusals: none.
+#[no_mangle]
+pub extern "C" fn bus_command_address(word: u16) -> u16
+    ensures field { λ r. ⌜ r ≡ addressOf word ⌝ }
+{
+    CommandWord(word).address()
+}
+
+// Gives the T/R field as it stands in the word.
+// Tables: none. Refusals: none.
+#[no_mangle]
+pub extern "C" fn bus_command_transmit(word: u16) -> u16
+    ensures field { λ r. ⌜ r ≡ transmitOf word ⌝ }
+{
+    CommandWord(word).transmit()
+}
+
+// Gives the subaddress field as it stands in the word.
+// Tables: none. Refusals: none.
+#[no_mangle]
+pub extern "C" fn bus_command_subaddress(word: u16) -> u16
+    ensures field { λ r. ⌜ r ≡ subaddressOf word ⌝ }
+{
+    CommandWord(word).subaddress()
+}
+
+// Gives the count field as it stands in the word.
+// Tables: none. Refusals: none.
+#[no_mangle]
+pub extern "C" fn bus_command_count(word: u16) -> u16
+    ensures field { λ r. ⌜ r ≡ countOf word ⌝ }
+{
+    CommandWord(word).count()
+}
+
+// Gives the count, 0 read as 32.
+// Tables: none. Refusals: none.
+#[no_mangle]
+pub extern "C" fn bus_command_words(word: u16) -> u16
+    ensures count { λ r. ⌜ r ≡ wordsOf word ⌝ }
+{
+    CommandWord(word).words()
+}
+
+// Gives 1 for a mode command, else 0.
+// Tables: none. Refusals: none.
+#[no_mangle]
+pub extern "C" fn bus_command_is_mode(word: u16) -> u8
+    ensures answer { λ r. ⌜ r ≡ numberOf (isMode word) ⌝ }
+{
+    number(CommandWord(word).is_mode())
+}
+
+// Gives the status word of the low 5 bits of the address and, of the flags, the bits 0400 0100 0010 0008 0004 0001.
+// Tables: none. Refusals: none.
+#[no_mangle]
+pub extern "C" fn bus_status_build(address: u16, flags: u16) -> u16
+    ensures word { λ r. ⌜ r ≡ statusOf address flags ⌝ }
+{
+    let built = StatusWord::build(address, flags);
+    built.0
+}
+
+// Gives the address of a status word.
+// Tables: none. Refusals: none.
+#[no_mangle]
+pub extern "C" fn bus_status_address(word: u16) -> u16
+    ensures field { λ r. ⌜ r ≡ addressOf word ⌝ }
+{
+    StatusWord(word).address()
+}
+
+// Gives the six flag bits of a status word, 0 elsewhere.
+// Tables: none. Refusals: none.
+#[no_mangle]
+pub extern "C" fn bus_status_flags(word: u16) -> u16
+    ensures flags { λ r. ⌜ r ≡ flagsOf word ⌝ }
+{
+    StatusWord(word).flags()
+}

@@ -1,0 +1,34 @@
+/* The card's logic for C: libbuscard.a. Numbers and bytes only; nothing is allocated, nothing is kept between calls, and every call
+ * returns for any argument. What each function gives is proved of its source, crates/buscard/src/lib.rt; nothing checks that this
+ * header has the same types, so the two change together. */
+#ifndef BUSCARD_H
+#define BUSCARD_H
+
+#include <stdint.h>
+
+/* The parity bit that makes the 17 bits odd. */
+uint8_t bus_word_parity(uint16_t word);
+/* 1 if valid, else 0; a number out of range gives 0. sync: 0 command/status, 1 data; faults: 0 none. */
+uint8_t bus_word_valid(uint8_t sync, uint8_t faults, uint16_t word, uint8_t parity);
+/* 1 if after is 195 to 205 ticks past before, else 0. */
+uint8_t bus_word_spaced(uint64_t before, uint64_t after);
+
+/* The command word of the low 5, 1, 5 and 5 bits. */
+uint16_t bus_command_build(uint16_t address, uint16_t transmit, uint16_t subaddress, uint16_t count);
+/* The fields as they stand in the word. */
+uint16_t bus_command_address(uint16_t word);
+uint16_t bus_command_transmit(uint16_t word);
+uint16_t bus_command_subaddress(uint16_t word);
+uint16_t bus_command_count(uint16_t word);
+/* The count, 0 read as 32. */
+uint16_t bus_command_words(uint16_t word);
+/* 1 for subaddress 0 or 31, else 0. */
+uint8_t bus_command_is_mode(uint16_t word);
+
+/* The address in the high five bits and, of flags, only the bits 0400 0100 0010 0008 0004 0001. */
+uint16_t bus_status_build(uint16_t address, uint16_t flags);
+uint16_t bus_status_address(uint16_t word);
+/* The six flag bits of the word. */
+uint16_t bus_status_flags(uint16_t word);
+
+#endif
