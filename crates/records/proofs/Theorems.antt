@@ -1,0 +1,109 @@
+-- What readers and writers of records may rely on. Assumes nothing.
+use mathlib.Core.Path.{_≡_, refl, sym, ap, subst, _∙_}
+use mathlib.Core.Bool.{Bool, true, false, cond, _&&_}
+use Prim.Native.Nat.{ℕ, zero, suc, _^_, _<_, _≤_}
+use native.Mathlib.Nat.{le-of-suc-le-suc, not-suc-le-zero}
+use native.Mathlib.Omega.{arith}
+use mathlib.Core.List.{List, [], _∷_, _++_}
+use lib.ListN.{length, getD, take, drop}
+use lib.Dec.{ltb, leb, eqb}
+use borrow.Author.Tests.{ltb-true, ltb-false, eqb-true, eqb-false}
+use Rattle.words.proofs.Truth.{and-both}
+use Rattle.words.specs.Words.{onClock}
+use Rattle.records.specs.Numbers.{numberAfter, numberOf, bytesOf}
+use Rattle.records.specs.Records.{inRange, recordAt, readOf, formOf, writeRefusal, writtenOf}
+use Rattle.records.specs.Theorems.{Bytes, Fits, ReadWritten, WriteRead, OnlyForm, OneForm, RefusedExactly}
+use Rattle.records.specs.declared.forms.WordRecord.{WordRecord}
+use Rattle.records.specs.declared.forms.Read.{Read}
+use Rattle.records.specs.declared.forms.Read.the-variants.{Record, Refused}
+use Rattle.records.proofs.Digits.{number-bytes, bytes-number}
+use Rattle.records.proofs.Cases.{short, bad-length, bad-field, good}
+
+-- ---- which bytes are read
+
+pub refused-exactly : (bytes : List ℕ) → RefusedExactly bytes
+refused-exactly bytes = record {
+  short = λ l. sym (short bytes l);
+  length-wrong = λ l h. sym (bad-length bytes l refl h);
+  out-of-range = λ l h f. sym (bad-field bytes l refl h refl refl f);
+  no-other = λ l h f. sym (good bytes l refl h refl refl f);
+}
+
+-- a time in range fits eight bytes
+time-lt : (r : WordRecord) → inRange r ≡ true → r .time .0 < 2 ^ 48
+time-lt r h =
+    let tests-4 = and-both (onClock (r .time .0) && leb (r .bus) 1 && leb (r .sync) 2 && leb (r .faults) 3) (leb (r .parity) 1) h in
+    let tests-3 = and-both (onClock (r .time .0) && leb (r .bus) 1 && leb (r .sync) 2) (leb (r .faults) 3) (tests-4 .0) in
+    let tests-2 = and-both (onClock (r .time .0) && leb (r .bus) 1) (leb (r .sync) 2) (tests-3 .0) in
+    ltb-true (r .time .0) (2 ^ 48) (and-both (onClock (r .time .0)) (leb (r .bus) 1) (tests-2 .0) .0)
+
+pub read-written : ReadWritten
+unfolding numberAfter
+read-written r after fits =
+    let s = formOf r ++ after in
+    let time : r .time .0 < 256 ^ 8 = omega (arith, time-lt r (fits .in-range)) in
+    let back : recordAt s ≡ r = rw (number-bytes 8 (r .time .0) time, number-bytes 2 (r .word) (fits .sixteen)) in
+    refused-exactly s .no-other (omega arith) refl (ap inRange back ∙ fits .in-range) ∙ ap Record back
+
+pub write-read : WriteRead
+unfolding writtenOf
+write-read r bytes fits none = rw none (read-written r (drop 16 bytes) fits)
+
+-- ---- one form
+
+-- what a read that gives a record shows
+pub record Good (s : List ℕ) (r : WordRecord) : Type 0 where
+  pub long : 16 ≤ length s
+  pub length-right : numberOf (take 2 s) ≡ 14
+  pub same : recordAt s ≡ r
+
+good-by : (s : List ℕ) (r : WordRecord) (a b e : Bool) → ltb (length s) 16 ≡ a → eqb (numberOf (take 2 s)) 14 ≡ b
+    → cond a (Refused (record { 0 = 3 })) (cond b (cond e (Record (recordAt s)) (Refused (record { 0 = 5 }))) (Refused (record { 0 = 4 }))) ≡ Record r → Good s r
+good-by s r true b e p q h = let z : _≡_ {A = ℕ} 0 1 = cc in absurd (omega arith)
+good-by s r false false e p q h = let z : _≡_ {A = ℕ} 0 1 = cc in absurd (omega arith)
+good-by s r false true false p q h = let z : _≡_ {A = ℕ} 0 1 = cc in absurd (omega arith)
+good-by s r false true true p q h = record { long = ltb-false (length s) 16 p; length-right = eqb-true (numberOf (take 2 s)) 14 q; same = cc }
+
+pub read-good : (s : List ℕ) (r : WordRecord) → readOf s ≡ Record r → Good s r
+unfolding readOf
+read-good s r h = good-by s r (ltb (length s) 16) (eqb (numberOf (take 2 s)) 14) (inRange (recordAt s)) refl refl h
+
+pub bytes-take : (n : ℕ) (s : List ℕ) → Bytes s → Bytes (take n s)
+bytes-take zero s h i = omega arith
+bytes-take (suc n) [] h i = omega arith
+bytes-take (suc n) (x ∷ s) h zero = h 0
+bytes-take (suc n) (x ∷ s) h (suc i) = bytes-take n s (λ j. h (suc j)) i
+
+pub bytes-drop : (n : ℕ) (s : List ℕ) → Bytes s → Bytes (drop n s)
+bytes-drop zero s h i = h i
+bytes-drop (suc n) [] h i = omega arith
+bytes-drop (suc n) (x ∷ s) h i = bytes-drop n s (λ j. h (suc j)) i
+
+-- a list with its first n elements written out
+abbrev heads : ℕ → List ℕ → List ℕ
+heads zero s = s
+heads (suc n) s = getD s 0 0 ∷ heads n (drop 1 s)
+
+heads-same : (n : ℕ) (s : List ℕ) → n ≤ length s → s ≡ heads n s
+heads-same zero s l = refl
+heads-same (suc n) [] l = absurd (not-suc-le-zero l)
+heads-same (suc n) (x ∷ s) l = ap (λ (k : List ℕ). x ∷ k) (heads-same n s (le-of-suc-le-suc l))
+
+-- 16 bytes with the right length are the form of the record that they spell
+spelled-form : (s : List ℕ) → 16 ≤ length s → Bytes s → numberOf (take 2 s) ≡ 14 → take 16 s ≡ formOf (recordAt s)
+spelled-form s l =
+    subst (λ (k : List ℕ). Bytes k → numberOf (take 2 k) ≡ 14 → take 16 k ≡ formOf (recordAt k)) (sym (heads-same 16 s l))
+    (λ h n.
+    let t = heads 16 s in
+    let length-bytes = ap (bytesOf 2) (sym n) ∙ bytes-number (take 2 t) (bytes-take 2 t h) in
+    let time-bytes = bytes-number (take 8 (drop 2 t)) (bytes-take 8 (drop 2 t) (bytes-drop 2 t h)) in
+    let word-bytes = bytes-number (take 2 (drop 13 t)) (bytes-take 2 (drop 13 t) (bytes-drop 13 t h)) in
+    cc)
+
+pub only-form : OnlyForm
+only-form bytes r h e =
+    let g = read-good bytes r e in
+    spelled-form bytes (g .long) h (g .length-right) ∙ ap formOf (g .same)
+
+pub one-form : OneForm
+one-form bytes others r h k e f = only-form bytes r h e ∙ sym (only-form others r k f)

@@ -1,0 +1,109 @@
+-- The walk over a file as the loop makes it. Assumes nothing.
+use mathlib.Core.Path.{_≡_, refl, sym, ap, subst, _∙_}
+use Prim.Native.Nat.{ℕ, zero, suc, _+_, _-_, _≤_, _<_}
+use native.Mathlib.Nat.{add-zero, add-assoc, zero-add}
+use native.Mathlib.Numerals.{one-add}
+use native.Mathlib.Omega.{arith}
+use mathlib.Core.List.{List, [], _∷_}
+use lib.ListN.{length, take, drop, length-drop, drop-of-length-le}
+use lib.Seq.{drop-drop}
+use borrow.Author.Tests.{ne-eqb}
+use Rattle.words.specs.declared.refusals.Refusal.{Refusal}
+use Rattle.records.specs.Records.{readOf}
+use Rattle.records.specs.Files.{openOf, Walk, holds, stops, with, goOn, walkFrom, walkAt, walkOf, counts, countedOf}
+use Rattle.records.specs.declared.forms.WordRecord.{WordRecord}
+use Rattle.records.specs.declared.forms.Read.{Read}
+use Rattle.records.specs.declared.forms.Read.the-variants.{Record, Refused}
+use Rattle.records.specs.declared.files.Cursor.{Cursor}
+use Rattle.records.specs.declared.files.Opened.{Opened}
+use Rattle.records.specs.declared.files.Opened.the-variants as opened
+use Rattle.records.specs.declared.files.Counted.{Counted}
+use Rattle.records.specs.declared.files.Counted.the-variants as counted
+use Rattle.records.proofs.Cases.{rest-read}
+use Rattle.records.proofs.Theorems.{read-good}
+
+-- so many records more
+unfoldable pub more : ℕ → Counted → Counted
+more n (counted.Records k) = counted.Records (n + k)
+more n (counted.Refused r) = counted.Refused r
+
+more-none : (x : Counted) → more 0 x ≡ x
+unfolding more
+more-none (counted.Records k) = ap counted.Records (zero-add k)
+more-none (counted.Refused r) = refl
+
+more-with : (n : ℕ) (r : WordRecord) (w : Walk) → more n (counts (with r w)) ≡ more (n + 1) (counts w)
+unfolding more
+more-with n r (holds rs) = ap counted.Records (omega arith)
+more-with n r (stops k) = refl
+
+-- what is left at `at`, with the records so far, is what the whole gives
+pub record Left (file : List ℕ) (whole : Counted) (at records : ℕ) : Type 0 where
+  pub fuel : ℕ
+  pub enough : length file ≤ at + fuel
+  pub few : records ≤ at
+  pub same : more records (counts (walkFrom fuel (drop at file))) ≡ whole
+
+pub start : (file : List ℕ) (at : ℕ) → Left file (counts (walkFrom (length file) (drop at file))) at 0
+start file at = record { fuel = length file; enough = omega arith; few = omega arith; same = more-none (counts (walkFrom (length file) (drop at file))) }
+
+-- the walk at the end of the bytes
+pub walk-none : (n : ℕ) → walkFrom n [] ≡ holds []
+unfolding walkFrom
+walk-none zero = refl
+walk-none (suc n) = refl
+
+pub stop : (file : List ℕ) (whole : Counted) (at records : ℕ) → Left file whole at records → length file ≤ at → counted.Records records ≡ whole
+unfolding more
+stop file whole at records left l =
+    let none : walkFrom (left .fuel) (drop at file) ≡ holds [] = ap (walkFrom (left .fuel)) (drop-of-length-le file l) ∙ walk-none (left .fuel) in
+    ap counted.Records (sym (add-zero records)) ∙ sym (ap (λ (w : Walk). more records (counts w)) none) ∙ left .same
+
+-- what the next read, with what follows it, comes to
+record Turn (file : List ℕ) (whole : Counted) (at records : ℕ) (g : Read) : Type 0 where
+  fuel : ℕ
+  enough : length file ≤ at + suc fuel
+  same : more records (counts (goOn g (walkFrom fuel (drop (at + 16) file)))) ≡ whole
+
+pub walk-some : (n : ℕ) (bytes : List ℕ) → 0 < length bytes → walkFrom (suc n) bytes ≡ goOn (readOf bytes) (walkFrom n (drop 16 bytes))
+unfolding walkFrom
+walk-some n bytes l = rw (ne-eqb (length bytes) 0 (λ e. omega arith))
+
+turn-by : (file : List ℕ) (whole : Counted) (at records n : ℕ) → length file ≤ at + n → more records (counts (walkFrom n (drop at file))) ≡ whole → at < length file → Turn file whole at records (readOf (drop at file))
+turn-by file whole at records zero enough same l = absurd (omega arith)
+turn-by file whole at records (suc n) enough same l = record {
+  fuel = n;
+  enough = enough;
+  same = sym (rw (walk-some n (drop at file) (omega (arith, length-drop at file)), drop-drop 16 at file)) ∙ same;
+}
+
+-- the ways out of a turn and on to the next, from what the code has
+module _ (file : List ℕ) (whole : Counted) (at records : ℕ) (g : Read) (left : Left file whole at records) (l : at < length file) (e : g ≡ readOf (take (length file - at) (drop at file))) where
+  turn : (x : Read) → g ≡ x → Turn file whole at records x
+  turn x q =
+      subst (λ (y : Read). Turn file whole at records y) (sym (e ∙ rest-read file at (omega arith)) ∙ q)
+      (turn-by file whole at records (left .fuel) (left .enough) (left .same) l)
+
+  pub refused : (n : Refusal) → g ≡ Refused n → counted.Refused n ≡ whole
+  unfolding more
+  refused n q = turn (Refused n) q .same
+
+  pub next : (r : WordRecord) → g ≡ Record r → Left file whole (at + 16) (records + 1)
+  next r q =
+      let t = turn (Record r) q in
+      record {
+        fuel = t .fuel;
+        enough = omega (arith, t .enough);
+        few = omega (arith, left .few);
+        same = sym (more-with records r (walkFrom (t .fuel) (drop (at + 16) file))) ∙ t .same;
+      }
+
+-- a file by how it opens
+module _ (file : List ℕ) (o : Opened) (e : o ≡ openOf file) where
+  pub not-opened : (n : Refusal) → o ≡ opened.Refused n → counted.Refused n ≡ countedOf file
+  unfolding countedOf walkOf
+  not-opened n q = ap (λ (x : Opened). counts (walkAt x file)) (sym q ∙ e)
+
+  pub opened-whole : (c : Cursor) (r : Counted) → o ≡ opened.At c → r ≡ counts (walkFrom (length file) (drop (c .at) file)) → r ≡ countedOf file
+  unfolding countedOf walkOf
+  opened-whole c r q h = h ∙ ap (λ (x : Opened). counts (walkAt x file)) (sym q ∙ e)

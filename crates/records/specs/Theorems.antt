@@ -1,0 +1,82 @@
+-- What holds of records and files beyond each function's own promise. Each is proved in proofs/ under the name at its side. Assumes
+-- nothing.
+use Prim.Native.Nat.{ℕ, suc, _+_, _^_, _≤_, _<_}
+use mathlib.Core.Path.{_≡_}
+use mathlib.Core.Bool.{true, false}
+use mathlib.Core.List.{List, [], _∷_, _++_}
+use lib.ListN.{length, getD, take, drop}
+use Rattle.words.specs.Refusals.{notRefused, refusedShortRecord, refusedRecordLength, refusedOutOfRange}
+use Rattle.records.specs.Numbers.{numberOf}
+use Rattle.records.specs.Records.{inRange, formOf, recordAt, readOf, writeRefusal, writtenOf}
+use Rattle.records.specs.Files.{fileOf, nextOf, Walk, holds, stops, with, walkFrom, walkOf}
+use Rattle.records.specs.declared.forms.WordRecord.{WordRecord}
+use Rattle.records.specs.declared.forms.Read.the-variants.{Record, Refused}
+use Rattle.records.specs.declared.files.Next.{Next}
+use Rattle.records.specs.declared.files.Next.the-variants as next
+
+-- Each is a byte.
+abbrev pub Bytes : List ℕ → Type 0
+Bytes bytes = (i : ℕ) → getD bytes i 0 < 256
+
+-- A record that can be written: in range, its word of 16 bits.
+pub record Fits (r : WordRecord) : Type 0 where
+  pub in-range : inRange r ≡ true
+  pub sixteen : r .word < 2 ^ 16
+
+abbrev pub AllFit : List WordRecord → Type 0
+AllFit [] = Unit {0}
+AllFit (r ∷ rs) = Fits r × AllFit rs
+
+-- A written form, whatever stands after it, is read as its record: read-written
+abbrev pub ReadWritten : Type 0
+ReadWritten = (r : WordRecord) (after : List ℕ) → Fits r → readOf (formOf r ++ after) ≡ Record r
+
+-- And so are the bytes that a write leaves: write-read
+abbrev pub WriteRead : Type 0
+WriteRead = (r : WordRecord) (bytes : List ℕ) → Fits r → writeRefusal r bytes ≡ notRefused → readOf (writtenOf r bytes) ≡ Record r
+
+-- Bytes that are read as a record are its written form: only-form
+abbrev pub OnlyForm : Type 0
+OnlyForm = (bytes : List ℕ) (r : WordRecord) → Bytes bytes → readOf bytes ≡ Record r → take 16 bytes ≡ formOf r
+
+-- So no two byte forms are read as one record: one-form
+abbrev pub OneForm : Type 0
+OneForm =
+    (bytes others : List ℕ) (r : WordRecord) → Bytes bytes → Bytes others → readOf bytes ≡ Record r → readOf others ≡ Record r
+    → take 16 bytes ≡ take 16 others
+
+-- Which bytes are refused, with which number, and that no others are: refused-exactly
+pub record RefusedExactly (bytes : List ℕ) : Type 0 where
+  pub short : length bytes < 16 → readOf bytes ≡ Refused (record { 0 = refusedShortRecord })
+  pub length-wrong : 16 ≤ length bytes → (numberOf (take 2 bytes) ≡ 14 → ⊥) → readOf bytes ≡ Refused (record { 0 = refusedRecordLength })
+  pub out-of-range : 16 ≤ length bytes → numberOf (take 2 bytes) ≡ 14 → inRange (recordAt bytes) ≡ false → readOf bytes ≡ Refused (record { 0 = refusedOutOfRange })
+  pub no-other : 16 ≤ length bytes → numberOf (take 2 bytes) ≡ 14 → inRange (recordAt bytes) ≡ true → readOf bytes ≡ Record (recordAt bytes)
+
+-- What a step of the cursor adds to what follows it.
+abbrev pub stepOf : Next → Walk → Walk
+stepOf (next.Record r c) rest = with r rest
+stepOf next.End rest = holds []
+stepOf (next.Refused n) rest = stops n
+
+-- The cursor's steps are those of the walk over the whole file: next-walk
+abbrev pub NextWalk : Type 0
+NextWalk = (file : List ℕ) (at n : ℕ) → walkFrom (suc n) (drop at file) ≡ stepOf (nextOf file at) (walkFrom n (drop (at + 16) file))
+
+-- A written file is read as its records: file-written
+abbrev pub FileWritten : Type 0
+FileWritten = (rs : List WordRecord) → AllFit rs → walkOf (fileOf rs) ≡ holds rs
+
+-- And only that file is: only-file
+abbrev pub OnlyFile : Type 0
+OnlyFile = (file : List ℕ) (rs : List WordRecord) → Bytes file → walkOf file ≡ holds rs → file ≡ fileOf rs
+
+-- "A file of one record, time 1000, bus A, command 2842, parity 1, is whole: `01 00 0E 00 00 00 00 00 00 03 E8 00 00 00 28 42 01`": example
+abbrev pub exampleRecord : WordRecord
+exampleRecord = record { time = record { 0 = 1000 }; bus = 0; sync = 0; faults = 0; word = 0x2842; parity = 1 }
+
+abbrev pub exampleFile : List ℕ
+exampleFile =
+    0x01 ∷ 0x00 ∷ 0x0E ∷ 0x00 ∷ 0x00 ∷ 0x00 ∷ 0x00 ∷ 0x00 ∷ 0x00 ∷ 0x03 ∷ 0xE8 ∷ 0x00 ∷ 0x00 ∷ 0x00 ∷ 0x28 ∷ 0x42 ∷ 0x01 ∷ []
+
+abbrev pub Example : Type 0
+Example = (fileOf (exampleRecord ∷ []) ≡ exampleFile) × (walkOf exampleFile ≡ holds (exampleRecord ∷ []))

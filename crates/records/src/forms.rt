@@ -1,0 +1,138 @@
+// One word record: its range, its 16 bytes, read and written (01 Word records on file). Meaning: specs/Records.antt.
+// Refusals: 3, 4, 5 reading; 9, 5 writing.
+ghost use mathlib.Core.Path.{_≡_};
+ghost use Prim.Native.Nat.{_≤_};
+ghost use lib.ListN.{length};
+ghost use Rattle.records.specs.Records.{inRange, formOf, recordAt, readOf, refusalOf, writeRefusal, writtenOf};
+use crate::numbers::number;
+use words::Moment;
+use words::Refusal;
+
+// A word as the receiver handed it over. Any numbers fit; `in_range` says which can be written and read.
+pub struct WordRecord {
+    pub time: Moment,
+    pub bus: u8,
+    pub sync: u8,
+    pub faults: u8,
+    pub word: u16,
+    pub parity: u8,
+}
+
+impl WordRecord {
+    // Says whether the time and every field are in range.
+    // Tables: none. Refusals: none.
+    pub fn in_range(self) -> bool
+        ensures answer { λ r. ⌜ r ≡ inRange self ⌝ }
+    {
+        self.time.on_clock()
+            & (self.bus <= 1)
+            & (self.sync <= 2)
+            & (self.faults <= 3)
+            & (self.parity <= 1)
+    }
+
+    // Gives the 16 bytes.
+    fn form(self) -> [u8; 16]
+        ensures bytes { λ r. ⌜ r ≡ formOf self ⌝ }
+    {
+        let time = self.time.0;
+        let word = self.word;
+        let t1 = time >> 8;
+        let t2 = t1 >> 8;
+        let t3 = t2 >> 8;
+        let t4 = t3 >> 8;
+        let t5 = t4 >> 8;
+        let t6 = t5 >> 8;
+        let t7 = t6 >> 8;
+        [
+            0,
+            14,
+            (t7 % 256) as u8,
+            (t6 % 256) as u8,
+            (t5 % 256) as u8,
+            (t4 % 256) as u8,
+            (t3 % 256) as u8,
+            (t2 % 256) as u8,
+            (t1 % 256) as u8,
+            (time % 256) as u8,
+            self.bus,
+            self.sync,
+            self.faults,
+            ((word >> 8) % 256) as u8,
+            (word % 256) as u8,
+            self.parity,
+        ]
+    }
+
+    // Writes the record at the front of the bytes.
+    // Tables: the first 16 of bytes are the record's form, all others as before; after a refusal every byte is as before.
+    // Refusals: 9, fewer than 16 bytes; 5, a field or the time out of range.
+    pub fn write(self, bytes: &mut [u8]) -> Refusal
+        ensures refusal { λ r. ⌜ r .0 ≡ writeRefusal self (now (bytes .entry)) ⌝ }
+        ensures bytes { λ _. ⌜ now (bytes .exit) ≡ writtenOf self (now (bytes .entry)) ⌝ }
+    {
+        if bytes.len() < 16 {
+            return Refusal::NO_ROOM;
+        }
+        if self.in_range() {
+            let form = self.form();
+            bytes::copy(&form, bytes);
+            Refusal::NONE
+        } else {
+            Refusal::OUT_OF_RANGE
+        }
+    }
+}
+
+// What reading gives: a record in range, or the number of the refusal.
+pub enum Read {
+    Record(WordRecord),
+    Refused(Refusal),
+}
+
+// Gives the number of the refusal, 0 for a record.
+// Tables: none. Refusals: none.
+pub fn refusal_of(read: Read) -> Refusal
+    ensures number { λ r. ⌜ r .0 ≡ refusalOf read ⌝ }
+{
+    match read {
+        Read::Record(_) => Refusal::NONE,
+        Read::Refused(refusal) => refusal,
+    }
+}
+
+// Gives the record that 16 bytes spell, in range or not.
+fn spelled(bytes: &[u8]) -> WordRecord
+    requires { ⌜ 16 ≤ length (now bytes) ⌝ }
+    ensures record { λ r. ⌜ r ≡ recordAt (now (bytes .entry)) ⌝ }
+{
+    let time = number(&bytes[2..10]);
+    let word = number(&bytes[13..15]);
+    WordRecord {
+        time: Moment(time),
+        bus: bytes[10],
+        sync: bytes[11],
+        faults: bytes[12],
+        word: word as u16,
+        parity: bytes[15],
+    }
+}
+
+// Gives the record at the front of the bytes; what stands after it is not looked at.
+// Tables: bytes is only read. Refusals: 3, fewer than 16 bytes; 4, length not 14; 5, a field or the time out of range.
+pub fn read_record(bytes: &[u8]) -> Read
+    ensures read { λ r. ⌜ r ≡ readOf (now (bytes .entry)) ⌝ }
+{
+    if bytes.len() < 16 {
+        return Read::Refused(Refusal::SHORT_RECORD);
+    }
+    if number(&bytes[0..2]) != 14 {
+        return Read::Refused(Refusal::RECORD_LENGTH);
+    }
+    let record = spelled(bytes);
+    if record.in_range() {
+        Read::Record(record)
+    } else {
+        Read::Refused(Refusal::OUT_OF_RANGE)
+    }
+}
