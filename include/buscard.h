@@ -1,9 +1,11 @@
 /* The card's logic for C: libbuscard.a. Numbers and bytes only; nothing is allocated, nothing is kept between calls, and every call
- * returns for any argument. What each function gives is proved of its source, crates/buscard/src/lib.rt; nothing checks that this
- * header has the same types, so the two change together. */
+ * returns for any argument. A byte slice is a pointer and a length, NULL with 0 an empty one; the caller answers for pointers. A call that
+ * may be refused gives the refusal's number, or 0, and after a refusal nothing behind a pointer has changed. What each function gives is
+ * proved of its source, crates/buscard/src/lib.rt; nothing checks that this header has the same types, so the two change together. */
 #ifndef BUSCARD_H
 #define BUSCARD_H
 
+#include <stddef.h>
 #include <stdint.h>
 
 /* The parity bit that makes the 17 bits odd. */
@@ -30,5 +32,13 @@ uint16_t bus_status_build(uint16_t address, uint16_t flags);
 uint16_t bus_status_address(uint16_t word);
 /* The six flag bits of the word. */
 uint16_t bus_status_flags(uint16_t word);
+
+/* Reads the record at the front of the bytes. 0, or 3 fewer than 16 bytes, 4 length not 14, 5 out of range. */
+uint8_t bus_record_read(const uint8_t *bytes, size_t n, uint64_t *time, uint8_t *bus, uint8_t *sync, uint8_t *faults, uint16_t *word,
+                        uint8_t *parity);
+/* Writes a record into the first 16 bytes. 0, or 9 fewer than 16 bytes, 5 out of range. */
+uint8_t bus_record_write(uint8_t *bytes, size_t n, uint64_t time, uint8_t bus, uint8_t sync, uint8_t faults, uint16_t word, uint8_t parity);
+/* Reads the bytes as a file. 0 and how many records, or 8 version not 1 or no byte, then of the first bad record 3, 4, 5. */
+uint8_t bus_file_check(const uint8_t *bytes, size_t n, uint64_t *records);
 
 #endif

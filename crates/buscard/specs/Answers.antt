@@ -1,7 +1,38 @@
--- What C gets for yes and no. Assumes nothing.
+-- What C gets: numbers for yes and no, a record as six numbers, and what stays behind a pointer. Assumes nothing.
 use mathlib.Core.Bool.{Bool, cond}
 use Prim.Native.Nat.{ℕ}
+use Rattle.words.specs.Refusals.{notRefused}
+use Rattle.records.specs.declared.forms.WordRecord.{WordRecord}
+use Rattle.records.specs.declared.forms.Read.{Read}
+use Rattle.records.specs.declared.forms.Read.the-variants as read
+use Rattle.records.specs.declared.files.Counted.{Counted}
+use Rattle.records.specs.declared.files.Counted.the-variants as counted
 
 -- 1 for yes, else 0.
 unfoldable pub numberOf : Bool → ℕ
 numberOf answer = cond answer 1 0
+
+-- The record of six numbers.
+abbrev pub recordOf : ℕ → ℕ → ℕ → ℕ → ℕ → ℕ → WordRecord
+recordOf time bus sync faults word parity = record {
+  time = record { 0 = time };
+  bus = bus;
+  sync = sync;
+  faults = faults;
+  word = word;
+  parity = parity;
+}
+
+-- "A refusal gives its number and nothing else; state, tables and buffers stay.": a field of the record that was read, or what was there.
+abbrev pub fieldOr : Read → (WordRecord → ℕ) → ℕ → ℕ
+fieldOr (read.Record r) field before = field r
+fieldOr (read.Refused n) field before = before
+
+-- The number of records that were counted, or what was there; and the number of the refusal.
+abbrev pub countOr : Counted → ℕ → ℕ
+countOr (counted.Records n) before = n
+countOr (counted.Refused n) before = before
+
+abbrev pub countRefusal : Counted → ℕ
+countRefusal (counted.Records n) = notRefused
+countRefusal (counted.Refused n) = n .0

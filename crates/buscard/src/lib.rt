@@ -1,9 +1,15 @@
 // What the C bench program calls (01: "must also be callable from the C bench program on numbers and bytes"). Each function wraps one
-// of `words` and says the same definition. Nothing is allocated, nothing is kept between calls, every call returns for any argument.
-// Types for C: include/buscard.h.
+// of `words` or `records` and says the same definition. Nothing is allocated, nothing is kept between calls, every call returns for any
+// argument. A call that may be refused gives the refusal's number, or 0. Types for C: include/buscard.h.
 ghost use mathlib.Core.Path.{_≡_};
-ghost use Rattle.buscard.specs.Answers.{numberOf};
+ghost use Rattle.buscard.specs.Answers.{numberOf, recordOf, fieldOr, countOr, countRefusal};
+ghost use Rattle.records.specs.Records.{readOf, refusalOf, writeRefusal, writtenOf};
+ghost use Rattle.records.specs.Files.{countedOf};
+ghost use Rattle.records.specs.declared.forms.WordRecord.{WordRecord};
 ghost use Rattle.words.specs.Words.{parityOf, isValid, isSpaced, commandOf, addressOf, transmitOf, subaddressOf, countOf, wordsOf, isMode, statusOf, flagsOf};
+use records::Counted;
+use records::Read;
+use records::WordRecord;
 use words::CommandWord;
 use words::Moment;
 use words::StatusWord;
@@ -132,4 +138,81 @@ pub extern "C" fn bus_status_flags(word: u16) -> u16
     ensures flags { λ r. ⌜ r ≡ flagsOf word ⌝ }
 {
     StatusWord(word).flags()
+}
+
+// Reads the record at the front of the bytes into the six numbers.
+// Tables: each number is the record's; after a refusal all are as before. Refusals: 3, 4, 5.
+#[no_mangle]
+pub extern "C" fn bus_record_read(
+    bytes: &[u8],
+    time: &mut u64,
+    bus: &mut u8,
+    sync: &mut u8,
+    faults: &mut u8,
+    word: &mut u16,
+    parity: &mut u8,
+) -> u8
+    ensures refusal { λ r. ⌜ r ≡ refusalOf (readOf (now (bytes .entry))) ⌝ }
+    ensures time { λ _. ⌜ now (time .exit) ≡ fieldOr (readOf (now (bytes .entry))) (λ r. r .time .0) (now (time .entry)) ⌝ }
+    ensures bus { λ _. ⌜ now (bus .exit) ≡ fieldOr (readOf (now (bytes .entry))) (λ r. r .bus) (now (bus .entry)) ⌝ }
+    ensures sync { λ _. ⌜ now (sync .exit) ≡ fieldOr (readOf (now (bytes .entry))) (λ r. r .sync) (now (sync .entry)) ⌝ }
+    ensures faults { λ _. ⌜ now (faults .exit) ≡ fieldOr (readOf (now (bytes .entry))) (λ r. r .faults) (now (faults .entry)) ⌝ }
+    ensures word { λ _. ⌜ now (word .exit) ≡ fieldOr (readOf (now (bytes .entry))) (λ r. r .word) (now (word .entry)) ⌝ }
+    ensures parity { λ _. ⌜ now (parity .exit) ≡ fieldOr (readOf (now (bytes .entry))) (λ r. r .parity) (now (parity .entry)) ⌝ }
+{
+    match records::read_record(bytes) {
+        Read::Record(record) => {
+            *time = record.time.0;
+            *bus = record.bus;
+            *sync = record.sync;
+            *faults = record.faults;
+            *word = record.word;
+            *parity = record.parity;
+            0
+        }
+        Read::Refused(refusal) => refusal.0,
+    }
+}
+
+// Writes the record of the six numbers at the front of the bytes.
+// Tables: the first 16 of bytes are the record's form, all others as before; after a refusal all are as before. Refusals: 9, 5.
+#[no_mangle]
+pub extern "C" fn bus_record_write(
+    bytes: &mut [u8],
+    time: u64,
+    bus: u8,
+    sync: u8,
+    faults: u8,
+    word: u16,
+    parity: u8,
+) -> u8
+    ensures refusal { λ r. ⌜ r ≡ writeRefusal (recordOf time bus sync faults word parity) (now (bytes .entry)) ⌝ }
+    ensures bytes { λ _. ⌜ now (bytes .exit) ≡ writtenOf (recordOf time bus sync faults word parity) (now (bytes .entry)) ⌝ }
+{
+    let made = WordRecord {
+        time: Moment(time),
+        bus,
+        sync,
+        faults,
+        word,
+        parity,
+    };
+    let refusal = made.write(bytes);
+    refusal.0
+}
+
+// Reads the bytes as a file and counts its records.
+// Tables: records is their number; after a refusal it is as before. Refusals: 8, then record by record 3, 4, 5.
+#[no_mangle]
+pub extern "C" fn bus_file_check(bytes: &[u8], records: &mut u64) -> u8
+    ensures refusal { λ r. ⌜ r ≡ countRefusal (countedOf (now (bytes .entry))) ⌝ }
+    ensures records { λ _. ⌜ now (records .exit) ≡ countOr (countedOf (now (bytes .entry))) (now (records .entry)) ⌝ }
+{
+    match records::count_records(bytes) {
+        Counted::Records(count) => {
+            *records = count;
+            0
+        }
+        Counted::Refused(refusal) => refusal.0,
+    }
 }

@@ -36,9 +36,9 @@ next-walk file at n =
     dite (decLe (length file) at)
     (λ end. rw (le-leb _ _ end) (ap (walkFrom (suc n)) (drop-of-length-le file end) ∙ walk-none (suc n)))
     (λ more.
-      let l : at < length file = lt-of-not-le more in
-      rw (lt-leb _ _ l, walk-some n (drop at file) (omega (arith, length-drop at file)), drop-drop 16 at file)
-      (sym (placed-step at (readOf (drop at file)) after)))
+    let l : at < length file = lt-of-not-le more in
+    rw (lt-leb _ _ l, walk-some n (drop at file) (omega (arith, length-drop at file)), drop-drop 16 at file)
+    (sym (placed-step at (readOf (drop at file)) after)))
 
 -- ---- a written file is read as its records
 
@@ -87,7 +87,7 @@ walk-held (suc n) (x ∷ s) rs l h q =
 
 -- by whether the first byte is the version
 file-by : (x : ℕ) (s : List ℕ) (rs : List WordRecord) (b : Bool) → eqb x 1 ≡ b → Bytes (x ∷ s)
-  → walkAt (cond b (opened.At (record { at = 1 })) (opened.Refused (record { 0 = 8 }))) (x ∷ s) ≡ holds rs → x ∷ s ≡ fileOf rs
+    → walkAt (cond b (opened.At (record { at = 1 })) (opened.Refused (record { 0 = 8 }))) (x ∷ s) ≡ holds rs → x ∷ s ≡ fileOf rs
 file-by x s rs true e h q = ap₂ _∷_ (eqb-true x 1 e) (walk-held (suc (length s)) s rs (omega arith) (λ i. h (suc i)) q)
 file-by x s rs false e h q = absurd (never (record { 0 = 8 }) rs q)
 
