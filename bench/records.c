@@ -17,11 +17,15 @@ typedef struct {
 
 static unsigned long compared, differ;
 
-static void same(const char *what, int equal)
+static void same(const char *what, const uint8_t *bytes, size_t n, int equal)
 {
     compared++;
-    if (!equal && differ++ < 10)
-        printf("%s differs from plain C\n", what);
+    if (equal || differ++ >= 10)
+        return;
+    printf("%s differs from plain C, %zu bytes:", what, n);
+    for (size_t i = 0; i < n && i < 40; i++)
+        printf(" %02X", bytes[i]);
+    printf("\n");
 }
 
 /* ---- plain C */
@@ -97,7 +101,7 @@ static void read_both(const uint8_t *bytes, size_t n)
     static const Fields before = {0x1122334455667788, 0x99, 0xAA, 0xBB, 0xCC, 0xDDEE};
     Fields got = before, wanted = before;
     unsigned refused = bus_record_read(bytes, n, &got.time, &got.bus, &got.sync, &got.faults, &got.word, &got.parity);
-    same("reading", refused == plain_read(bytes, n, &wanted) && equal(&got, &wanted));
+    same("reading", bytes, n, refused == plain_read(bytes, n, &wanted) && equal(&got, &wanted));
 }
 
 static void write_both(size_t n, const Fields *f)
@@ -106,14 +110,14 @@ static void write_both(size_t n, const Fields *f)
     memset(got, 0xEE, sizeof got);
     memset(wanted, 0xEE, sizeof wanted);
     unsigned refused = bus_record_write(got, n, f->time, f->bus, f->sync, f->faults, f->word, f->parity);
-    same("writing", refused == plain_write(wanted, n, f) && memcmp(got, wanted, sizeof got) == 0);
+    same("writing", got, n, refused == plain_write(wanted, n, f) && memcmp(got, wanted, sizeof got) == 0);
 }
 
 static void check_both(const uint8_t *bytes, size_t n)
 {
     uint64_t got = 77, wanted = 77;
     unsigned refused = bus_file_check(bytes, n, &got);
-    same("checking a file", refused == plain_check(bytes, n, &wanted) && got == wanted);
+    same("checking a file", bytes, n, refused == plain_check(bytes, n, &wanted) && got == wanted);
 }
 
 /* ---- the example, and the ends of every range */
@@ -125,6 +129,9 @@ static int example(void)
     uint64_t records = 0;
     int wrong = bus_record_write(made + 1, 16, 1000, 0, 0, 0, 0x2842, 1) != 0 || memcmp(made, file, 17) != 0;
     wrong |= bus_file_check(file, 17, &records) != 0 || records != 1;
+    Fields f = {0};
+    wrong |= bus_record_read(file + 1, 16, &f.time, &f.bus, &f.sync, &f.faults, &f.word, &f.parity) != 0;
+    wrong |= f.time != 1000 || f.bus != 0 || f.sync != 0 || f.faults != 0 || f.word != 0x2842 || f.parity != 1;
     printf("the example file of one record: %s\n", wrong ? "WRONG" : "ok");
     return wrong;
 }
@@ -150,8 +157,28 @@ static void ends(void)
                         read_both(bytes, n);
                 }
             }
+    Fields none = {0};
     read_both(NULL, 0);
+    same("writing", NULL, 0, bus_record_write(NULL, 0, none.time, 0, 0, 0, 0, 0) == 9);
     check_both(NULL, 0);
+}
+
+/* Files of up to three records, cut at every length, under every version, one byte of one record changed. */
+static void small_files(void)
+{
+    static const uint8_t versions[] = {1, 0, 2, 255};
+    static const uint8_t changed[] = {0, 1, 2, 10, 11, 12, 15};
+    for (unsigned v = 0; v < 4; v++)
+        for (unsigned c = 0; c < 7; c++)
+            for (unsigned k = 0; k < 4; k++) {
+                uint8_t file[49] = {versions[v]};
+                for (unsigned i = 0; i < 3; i++)
+                    plain_write(file + 1 + 16 * i, 16, &(Fields){1000 + i, 0, 0, 0, 1, 0x2842});
+                if (k < 3)
+                    file[1 + 16 * k + changed[c]] ^= 0x44;
+                for (size_t n = 0; n <= sizeof file; n++)
+                    check_both(file, n);
+            }
 }
 
 /* ---- random and damaged records */
@@ -171,6 +198,19 @@ static unsigned upto(unsigned most)
     return (unsigned)(draw() % (most + 1));
 }
 
+/* A record whose time has that many high bits cut off; its bus and faults up to a most, which may be out of range. */
+static Fields drawn(unsigned cut, unsigned bus, unsigned faults)
+{
+    Fields f;
+    f.time = draw() >> cut;
+    f.bus = (uint8_t)upto(bus);
+    f.sync = (uint8_t)upto(2);
+    f.faults = (uint8_t)upto(faults);
+    f.parity = (uint8_t)upto(1);
+    f.word = (uint16_t)draw();
+    return f;
+}
+
 static uint8_t file[1 + 16 * (size_t)COUNT];
 
 /* A file of valid records, word and order of time at random. */
@@ -178,7 +218,7 @@ static void fill(size_t count)
 {
     file[0] = 1;
     for (size_t i = 0; i < count; i++) {
-        Fields f = {draw() >> 16, (uint8_t)upto(1), (uint8_t)upto(2), (uint8_t)upto(3), (uint8_t)upto(1), (uint16_t)draw()};
+        Fields f = drawn(16, 1, 3);
         plain_write(file + 1 + 16 * i, 16, &f);
     }
 }
@@ -199,7 +239,7 @@ static void random_records(void)
         size_t n = kind == 3 ? upto(15) : 16;
         read_both(bytes, n);
         *hit = before;
-        Fields f = {draw() >> upto(20), (uint8_t)upto(kind < 4 ? 2 : 1), (uint8_t)upto(2), (uint8_t)upto(kind < 2 ? 4 : 3), (uint8_t)upto(1), (uint16_t)draw()};
+        Fields f = drawn(upto(20), kind < 4 ? 2 : 1, kind < 2 ? 4 : 3);
         write_both(kind == 5 ? upto(33) : 16, &f);
     }
     for (unsigned i = 0; i < 2000; i++) {
@@ -247,6 +287,7 @@ int main(int count, char **arguments)
     }
     int wrong = example();
     ends();
+    small_files();
     random_records();
     printf("%d random and damaged records, %lu calls in all: %lu differ\n", COUNT, compared, differ);
     return wrong || differ;

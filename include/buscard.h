@@ -1,6 +1,6 @@
 /* The card's logic for C: libbuscard.a. Numbers and bytes only; nothing is allocated, nothing is kept between calls, and every call
- * returns for any argument. A byte slice is a pointer and a length, NULL with 0 an empty one; the caller answers for pointers. A call that
- * may be refused gives the refusal's number, or 0, and after a refusal nothing behind a pointer has changed. What each function gives is
+ * returns for any argument. A byte slice is a pointer and a length, NULL with 0 an empty one; the caller answers for pointers, and those of
+ * one call do not overlap. A call that may be refused gives the refusal's number, or 0, and after a refusal nothing behind a pointer has changed. What each function gives is
  * proved of its source, crates/buscard/src/lib.rt; nothing checks that this header has the same types, so the two change together. */
 #ifndef BUSCARD_H
 #define BUSCARD_H
@@ -29,6 +29,7 @@ uint8_t bus_command_is_mode(uint16_t word);
 
 /* The address in the high five bits and, of flags, only the bits 0400 0100 0010 0008 0004 0001. */
 uint16_t bus_status_build(uint16_t address, uint16_t flags);
+/* The address of the word. */
 uint16_t bus_status_address(uint16_t word);
 /* The six flag bits of the word. */
 uint16_t bus_status_flags(uint16_t word);

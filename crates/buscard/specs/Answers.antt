@@ -9,8 +9,8 @@ use Rattle.records.specs.declared.files.Counted.{Counted}
 use Rattle.records.specs.declared.files.Counted.the-variants as counted
 
 -- 1 for yes, else 0.
-unfoldable pub numberOf : Bool → ℕ
-numberOf answer = cond answer 1 0
+unfoldable pub oneIf : Bool → ℕ
+oneIf answer = cond answer 1 0
 
 -- The record of six numbers.
 abbrev pub recordOf : ℕ → ℕ → ℕ → ℕ → ℕ → ℕ → WordRecord

@@ -2,7 +2,7 @@
 // of `words` or `records` and says the same definition. Nothing is allocated, nothing is kept between calls, every call returns for any
 // argument. A call that may be refused gives the refusal's number, or 0. Types for C: include/buscard.h.
 ghost use mathlib.Core.Path.{_≡_};
-ghost use Rattle.buscard.specs.Answers.{numberOf, recordOf, fieldOr, countOr, countRefusal};
+ghost use Rattle.buscard.specs.Answers.{oneIf, recordOf, fieldOr, countOr, countRefusal};
 ghost use Rattle.records.specs.Records.{readOf, refusalOf, writeRefusal, writtenOf};
 ghost use Rattle.records.specs.Files.{countedOf};
 ghost use Rattle.records.specs.declared.forms.WordRecord.{WordRecord};
@@ -12,11 +12,12 @@ use records::Read;
 use records::WordRecord;
 use words::CommandWord;
 use words::Moment;
+use words::Refusal;
 use words::StatusWord;
 
 // Gives 1 for yes and 0 for no.
 fn number(answer: bool) -> u8
-    ensures number { λ r. ⌜ r ≡ numberOf answer ⌝ }
+    ensures number { λ r. ⌜ r ≡ oneIf answer ⌝ }
 {
     if answer { 1 } else { 0 }
 }
@@ -34,7 +35,7 @@ pub extern "C" fn bus_word_parity(word: u16) -> u8
 // Tables: none. Refusals: none.
 #[no_mangle]
 pub extern "C" fn bus_word_valid(sync: u8, faults: u8, word: u16, parity: u8) -> u8
-    ensures answer { λ r. ⌜ r ≡ numberOf (isValid sync faults word parity) ⌝ }
+    ensures answer { λ r. ⌜ r ≡ oneIf (isValid sync faults word parity) ⌝ }
 {
     number(words::is_valid(sync, faults, word, parity))
 }
@@ -43,7 +44,7 @@ pub extern "C" fn bus_word_valid(sync: u8, faults: u8, word: u16, parity: u8) ->
 // Tables: none. Refusals: none.
 #[no_mangle]
 pub extern "C" fn bus_word_spaced(before: u64, after: u64) -> u8
-    ensures answer { λ r. ⌜ r ≡ numberOf (isSpaced before after) ⌝ }
+    ensures answer { λ r. ⌜ r ≡ oneIf (isSpaced before after) ⌝ }
 {
     number(words::is_spaced(Moment(before), Moment(after)))
 }
@@ -107,7 +108,7 @@ pub extern "C" fn bus_command_words(word: u16) -> u16
 // Tables: none. Refusals: none.
 #[no_mangle]
 pub extern "C" fn bus_command_is_mode(word: u16) -> u8
-    ensures answer { λ r. ⌜ r ≡ numberOf (isMode word) ⌝ }
+    ensures answer { λ r. ⌜ r ≡ oneIf (isMode word) ⌝ }
 {
     number(CommandWord(word).is_mode())
 }
@@ -140,7 +141,7 @@ pub extern "C" fn bus_status_flags(word: u16) -> u16
     StatusWord(word).flags()
 }
 
-// Reads the record at the front of the bytes into the six numbers.
+// Gives 0 and the record at the front of the bytes in the six numbers, or gives the number of the refusal.
 // Tables: each number is the record's; after a refusal all are as before. Refusals: 3, 4, 5.
 #[no_mangle]
 pub extern "C" fn bus_record_read(
@@ -168,13 +169,13 @@ pub extern "C" fn bus_record_read(
             *faults = record.faults;
             *word = record.word;
             *parity = record.parity;
-            0
+            Refusal::NONE.0
         }
         Read::Refused(refusal) => refusal.0,
     }
 }
 
-// Writes the record of the six numbers at the front of the bytes.
+// Gives 0 and writes the record of the six numbers at the front of the bytes, or gives the number of the refusal.
 // Tables: the first 16 of bytes are the record's form, all others as before; after a refusal all are as before. Refusals: 9, 5.
 #[no_mangle]
 pub extern "C" fn bus_record_write(
@@ -201,7 +202,7 @@ pub extern "C" fn bus_record_write(
     refusal.0
 }
 
-// Reads the bytes as a file and counts its records.
+// Gives 0 and how many records the bytes hold as a file, or gives the number of the refusal.
 // Tables: records is their number; after a refusal it is as before. Refusals: 8, then record by record 3, 4, 5.
 #[no_mangle]
 pub extern "C" fn bus_file_check(bytes: &[u8], records: &mut u64) -> u8
@@ -211,7 +212,7 @@ pub extern "C" fn bus_file_check(bytes: &[u8], records: &mut u64) -> u8
     match records::count_records(bytes) {
         Counted::Records(count) => {
             *records = count;
-            0
+            Refusal::NONE.0
         }
         Counted::Refused(refusal) => refusal.0,
     }

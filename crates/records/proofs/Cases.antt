@@ -1,17 +1,17 @@
 -- The cases of reading and writing, each from the facts that the code's tests give. Assumes nothing.
-use mathlib.Core.Path.{_≡_, sym, ap, _∙_}
+use mathlib.Core.Path.{_≡_, refl, sym, ap, _∙_}
 use mathlib.Core.Bool.{Bool, true, false}
 use Prim.Native.Nat.{ℕ, _+_, _-_, _^_, _≤_, _<_}
-use native.Mathlib.Nat.{lt-of-lt-of-le, le-of-eq, pow-le-pow-right}
+use native.Mathlib.Nat.{lt-of-lt-of-le, pow-le-pow-right}
 use native.Mathlib.Omega.{arith}
-use mathlib.Core.List.{List, _++_}
-use lib.ListN.{length, getD, take, drop, length-take, length-drop, List·getD-eq-default}
+use mathlib.Core.List.{List, [], _∷_, _++_}
+use lib.ListN.{length, getD, take, drop, length-take, length-drop}
 use lib.Seq.{take-all}
 use borrow.Author.Tests.{lt-ltb, le-ltb, eq-eqb, ne-eqb, le-leb, lt-leb}
 use Rattle.words.specs.declared.refusals.Refusal.{Refusal}
 use Rattle.records.specs.Numbers.{numberOf}
 use Rattle.records.specs.Records.{inRange, formOf, recordAt, readOf, writeRefusal, writtenOf}
-use Rattle.records.specs.Files.{openOf, nextOf, placed}
+use Rattle.records.specs.Files.{openOf, nextOf, stepFrom}
 use Rattle.records.specs.declared.forms.WordRecord.{WordRecord}
 use Rattle.records.specs.declared.forms.Read.{Read}
 use Rattle.records.specs.declared.forms.Read.the-variants.{Record, Refused}
@@ -76,18 +76,20 @@ module _ (r : WordRecord) (s : List ℕ) {b : Bool} (l : 16 ≤ length s) (t : b
 
 -- ---- a file
 
-module _ (s : List ℕ) where
-  pub opened-none : length s ≡ 0 → opened.Refused (record { 0 = 8 }) ≡ openOf s
-  unfolding openOf
-  opened-none l = rw (List·getD-eq-default s 0 {n = 0} (le-of-eq l))
+pub opened-none : (s : List ℕ) → length s ≡ 0 → opened.Refused (record { 0 = 8 }) ≡ openOf s
+unfolding openOf
+opened-none [] l = refl
+opened-none (x ∷ s) l = absurd (omega arith)
 
-  pub opened-bad : (getD s 0 0 ≡ 1 → ⊥) → opened.Refused (record { 0 = 8 }) ≡ openOf s
-  unfolding openOf
-  opened-bad h = rw (ne-eqb _ _ h)
+pub opened-bad : (s : List ℕ) → (getD s 0 0 ≡ 1 → ⊥) → opened.Refused (record { 0 = 8 }) ≡ openOf s
+unfolding openOf
+opened-bad [] h = refl
+opened-bad (x ∷ s) h = rw (ne-eqb x 1 h)
 
-  pub opened-at : getD s 0 0 ≡ 1 → opened.At (record { at = 1 }) ≡ openOf s
-  unfolding openOf
-  opened-at h = rw (eq-eqb _ _ h)
+pub opened-at : (s : List ℕ) → getD s 0 0 ≡ 1 → opened.At (record { at = 1 }) ≡ openOf s
+unfolding openOf
+opened-at [] h = absurd (omega arith)
+opened-at (x ∷ s) h = rw (eq-eqb x 1 h)
 
 pub at-end : (s : List ℕ) (at : ℕ) → length s ≤ at → next.End ≡ nextOf s at
 unfolding nextOf
@@ -98,12 +100,12 @@ pub rest-read : (s : List ℕ) (at : ℕ) → at ≤ length s → readOf (take (
 rest-read s at l = ap readOf (take-all (length s - at) (drop at s) (omega (arith, length-drop at s)))
 
 module _ (s : List ℕ) (at : ℕ) {g : Read} (l : at < length s) (e : g ≡ readOf (take (length s - at) (drop at s))) where
-  going : placed at g ≡ nextOf s at
+  going : stepFrom at g ≡ nextOf s at
   unfolding nextOf
-  going = rw (lt-leb _ _ l) (ap (placed at) (e ∙ rest-read s at (omega arith)))
+  going = rw (lt-leb _ _ l) (ap (stepFrom at) (e ∙ rest-read s at (omega arith)))
 
   pub next-record : {r : WordRecord} → g ≡ Record r → next.Record r (record { at = at + 16 }) ≡ nextOf s at
-  next-record q = ap (placed at) (sym q) ∙ going
+  next-record q = ap (stepFrom at) (sym q) ∙ going
 
   pub next-refused : {n : Refusal} → g ≡ Refused n → next.Refused n ≡ nextOf s at
-  next-refused q = ap (placed at) (sym q) ∙ going
+  next-refused q = ap (stepFrom at) (sym q) ∙ going

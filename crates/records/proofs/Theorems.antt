@@ -5,23 +5,23 @@ use Prim.Native.Nat.{ℕ, zero, suc, _^_, _<_, _≤_}
 use native.Mathlib.Nat.{le-of-suc-le-suc, not-suc-le-zero}
 use native.Mathlib.Omega.{arith}
 use mathlib.Core.List.{List, [], _∷_, _++_}
-use lib.ListN.{length, getD, take, drop}
+use lib.ListN.{length, getD, take, drop, length-take, length-drop}
 use lib.Dec.{ltb, leb, eqb}
 use borrow.Author.Tests.{ltb-true, ltb-false, eqb-true, eqb-false}
 use Rattle.words.proofs.Truth.{and-both}
 use Rattle.words.specs.Words.{onClock}
 use Rattle.records.specs.Numbers.{numberAfter, numberOf, bytesOf}
 use Rattle.records.specs.Records.{inRange, recordAt, readOf, formOf, writeRefusal, writtenOf}
-use Rattle.records.specs.Theorems.{Bytes, Fits, ReadWritten, WriteRead, OnlyForm, OneForm, RefusedExactly}
+use Rattle.records.specs.Theorems.{Bytes, Fits, ReadWritten, WriteRead, OnlyForm, ReadFits, OneForm, RefusedExactly}
 use Rattle.records.specs.declared.forms.WordRecord.{WordRecord}
 use Rattle.records.specs.declared.forms.Read.{Read}
 use Rattle.records.specs.declared.forms.Read.the-variants.{Record, Refused}
-use Rattle.records.proofs.Digits.{number-bytes, bytes-number}
-use Rattle.records.proofs.Cases.{short, bad-length, bad-field, good}
+use Rattle.records.proofs.Digits.{number-lt, number-bytes, bytes-number}
+use Rattle.records.proofs.Cases.{short, bad-length, bad-field, good, written}
 
 -- ---- which bytes are read
 
-pub refused-exactly : (bytes : List ℕ) → RefusedExactly bytes
+pub refused-exactly : RefusedExactly
 refused-exactly bytes = record {
   short = λ l. sym (short bytes l);
   length-wrong = λ l h. sym (bad-length bytes l refl h);
@@ -47,7 +47,9 @@ read-written r after fits =
 
 pub write-read : WriteRead
 unfolding writtenOf
-write-read r bytes fits none = rw none (read-written r (drop 16 bytes) fits)
+write-read r bytes fits l =
+    let none : writeRefusal r bytes ≡ 0 = sym (written r bytes l refl (fits .in-range)) in
+    (none, rw none (read-written r (drop 16 bytes) fits), rw none refl)
 
 -- ---- one form
 
@@ -55,18 +57,20 @@ write-read r bytes fits none = rw none (read-written r (drop 16 bytes) fits)
 pub record Good (s : List ℕ) (r : WordRecord) : Type 0 where
   pub long : 16 ≤ length s
   pub length-right : numberOf (take 2 s) ≡ 14
+  pub in-range : inRange (recordAt s) ≡ true
   pub same : recordAt s ≡ r
 
-good-by : (s : List ℕ) (r : WordRecord) (a b e : Bool) → ltb (length s) 16 ≡ a → eqb (numberOf (take 2 s)) 14 ≡ b
+good-by : (s : List ℕ) (r : WordRecord) (a b e : Bool) → ltb (length s) 16 ≡ a → eqb (numberOf (take 2 s)) 14 ≡ b → inRange (recordAt s) ≡ e
     → cond a (Refused (record { 0 = 3 })) (cond b (cond e (Record (recordAt s)) (Refused (record { 0 = 5 }))) (Refused (record { 0 = 4 }))) ≡ Record r → Good s r
-good-by s r true b e p q h = let z : _≡_ {A = ℕ} 0 1 = cc in absurd (omega arith)
-good-by s r false false e p q h = let z : _≡_ {A = ℕ} 0 1 = cc in absurd (omega arith)
-good-by s r false true false p q h = let z : _≡_ {A = ℕ} 0 1 = cc in absurd (omega arith)
-good-by s r false true true p q h = record { long = ltb-false (length s) 16 p; length-right = eqb-true (numberOf (take 2 s)) 14 q; same = cc }
+good-by s r true b e p q t h = let z : _≡_ {A = ℕ} 0 1 = cc in absurd (omega arith)
+good-by s r false false e p q t h = let z : _≡_ {A = ℕ} 0 1 = cc in absurd (omega arith)
+good-by s r false true false p q t h = let z : _≡_ {A = ℕ} 0 1 = cc in absurd (omega arith)
+good-by s r false true true p q t h =
+    record { long = ltb-false (length s) 16 p; length-right = eqb-true (numberOf (take 2 s)) 14 q; in-range = t; same = cc }
 
 pub read-good : (s : List ℕ) (r : WordRecord) → readOf s ≡ Record r → Good s r
 unfolding readOf
-read-good s r h = good-by s r (ltb (length s) 16) (eqb (numberOf (take 2 s)) 14) (inRange (recordAt s)) refl refl h
+read-good s r h = good-by s r (ltb (length s) 16) (eqb (numberOf (take 2 s)) 14) (inRange (recordAt s)) refl refl refl h
 
 pub bytes-take : (n : ℕ) (s : List ℕ) → Bytes s → Bytes (take n s)
 bytes-take zero s h i = omega arith
@@ -104,6 +108,18 @@ pub only-form : OnlyForm
 only-form bytes r h e =
     let g = read-good bytes r e in
     spelled-form bytes (g .long) h (g .length-right) ∙ ap formOf (g .same)
+
+-- a word of two bytes
+word-lt : (s : List ℕ) → 16 ≤ length s → Bytes s → numberOf (take 2 (drop 13 s)) < 2 ^ 16
+word-lt s l h =
+    let two : length (take 2 (drop 13 s)) ≡ 2 = omega (arith, length-take 2 (drop 13 s), length-drop 13 s) in
+    let below = number-lt {acc = 0} {m = 1} (take 2 (drop 13 s)) (omega arith) (bytes-take 2 (drop 13 s) (bytes-drop 13 s h)) in
+    rw two at below
+
+pub read-fits : ReadFits
+read-fits bytes r h e =
+    let g = read-good bytes r e in
+    record { in-range = ap inRange (sym (g .same)) ∙ g .in-range; sixteen = subst (λ (x : WordRecord). x .word < 2 ^ 16) (g .same) (word-lt bytes (g .long) h) }
 
 pub one-form : OneForm
 one-form bytes others r h k e f = only-form bytes r h e ∙ sym (only-form others r k f)

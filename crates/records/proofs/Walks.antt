@@ -10,7 +10,7 @@ use lib.Seq.{drop-drop}
 use borrow.Author.Tests.{ne-eqb}
 use Rattle.words.specs.declared.refusals.Refusal.{Refusal}
 use Rattle.records.specs.Records.{readOf}
-use Rattle.records.specs.Files.{openOf, Walk, holds, stops, with, goOn, walkFrom, walkAt, walkOf, counts, countedOf}
+use Rattle.records.specs.Files.{openOf, Walk, whole, stops, with, goOn, walkFrom, walkAt, walkOf, counts, countedOf}
 use Rattle.records.specs.declared.forms.WordRecord.{WordRecord}
 use Rattle.records.specs.declared.forms.Read.{Read}
 use Rattle.records.specs.declared.forms.Read.the-variants.{Record, Refused}
@@ -34,61 +34,61 @@ more-none (counted.Refused r) = refl
 
 more-with : (n : ℕ) (r : WordRecord) (w : Walk) → more n (counts (with r w)) ≡ more (n + 1) (counts w)
 unfolding more
-more-with n r (holds rs) = ap counted.Records (omega arith)
+more-with n r (whole rs) = ap counted.Records (omega arith)
 more-with n r (stops k) = refl
 
 -- what is left at `at`, with the records so far, is what the whole gives
-pub record Left (file : List ℕ) (whole : Counted) (at records : ℕ) : Type 0 where
+pub record Left (file : List ℕ) (total : Counted) (at records : ℕ) : Type 0 where
   pub fuel : ℕ
   pub enough : length file ≤ at + fuel
   pub few : records ≤ at
-  pub same : more records (counts (walkFrom fuel (drop at file))) ≡ whole
+  pub same : more records (counts (walkFrom fuel (drop at file))) ≡ total
 
 pub start : (file : List ℕ) (at : ℕ) → Left file (counts (walkFrom (length file) (drop at file))) at 0
 start file at = record { fuel = length file; enough = omega arith; few = omega arith; same = more-none (counts (walkFrom (length file) (drop at file))) }
 
 -- the walk at the end of the bytes
-pub walk-none : (n : ℕ) → walkFrom n [] ≡ holds []
+pub walk-none : (n : ℕ) → walkFrom n [] ≡ whole []
 unfolding walkFrom
 walk-none zero = refl
 walk-none (suc n) = refl
 
-pub stop : (file : List ℕ) (whole : Counted) (at records : ℕ) → Left file whole at records → length file ≤ at → counted.Records records ≡ whole
+pub stop : (file : List ℕ) (total : Counted) (at records : ℕ) → Left file total at records → length file ≤ at → counted.Records records ≡ total
 unfolding more
-stop file whole at records left l =
-    let none : walkFrom (left .fuel) (drop at file) ≡ holds [] = ap (walkFrom (left .fuel)) (drop-of-length-le file l) ∙ walk-none (left .fuel) in
+stop file total at records left l =
+    let none : walkFrom (left .fuel) (drop at file) ≡ whole [] = ap (walkFrom (left .fuel)) (drop-of-length-le file l) ∙ walk-none (left .fuel) in
     ap counted.Records (sym (add-zero records)) ∙ sym (ap (λ (w : Walk). more records (counts w)) none) ∙ left .same
 
 -- what the next read, with what follows it, comes to
-record Turn (file : List ℕ) (whole : Counted) (at records : ℕ) (g : Read) : Type 0 where
+record Turn (file : List ℕ) (total : Counted) (at records : ℕ) (g : Read) : Type 0 where
   fuel : ℕ
   enough : length file ≤ at + suc fuel
-  same : more records (counts (goOn g (walkFrom fuel (drop (at + 16) file)))) ≡ whole
+  same : more records (counts (goOn g (walkFrom fuel (drop (at + 16) file)))) ≡ total
 
 pub walk-some : (n : ℕ) (bytes : List ℕ) → 0 < length bytes → walkFrom (suc n) bytes ≡ goOn (readOf bytes) (walkFrom n (drop 16 bytes))
 unfolding walkFrom
 walk-some n bytes l = rw (ne-eqb (length bytes) 0 (λ e. omega arith))
 
-turn-by : (file : List ℕ) (whole : Counted) (at records n : ℕ) → length file ≤ at + n → more records (counts (walkFrom n (drop at file))) ≡ whole → at < length file → Turn file whole at records (readOf (drop at file))
-turn-by file whole at records zero enough same l = absurd (omega arith)
-turn-by file whole at records (suc n) enough same l = record {
+turn-by : (file : List ℕ) (total : Counted) (at records n : ℕ) → length file ≤ at + n → more records (counts (walkFrom n (drop at file))) ≡ total → at < length file → Turn file total at records (readOf (drop at file))
+turn-by file total at records zero enough same l = absurd (omega arith)
+turn-by file total at records (suc n) enough same l = record {
   fuel = n;
   enough = enough;
   same = sym (rw (walk-some n (drop at file) (omega (arith, length-drop at file)), drop-drop 16 at file)) ∙ same;
 }
 
 -- the ways out of a turn and on to the next, from what the code has
-module _ (file : List ℕ) (whole : Counted) (at records : ℕ) (g : Read) (left : Left file whole at records) (l : at < length file) (e : g ≡ readOf (take (length file - at) (drop at file))) where
-  turn : (x : Read) → g ≡ x → Turn file whole at records x
+module _ (file : List ℕ) (total : Counted) (at records : ℕ) (g : Read) (left : Left file total at records) (l : at < length file) (e : g ≡ readOf (take (length file - at) (drop at file))) where
+  turn : (x : Read) → g ≡ x → Turn file total at records x
   turn x q =
-      subst (λ (y : Read). Turn file whole at records y) (sym (e ∙ rest-read file at (omega arith)) ∙ q)
-      (turn-by file whole at records (left .fuel) (left .enough) (left .same) l)
+      subst (λ (y : Read). Turn file total at records y) (sym (e ∙ rest-read file at (omega arith)) ∙ q)
+      (turn-by file total at records (left .fuel) (left .enough) (left .same) l)
 
-  pub refused : (n : Refusal) → g ≡ Refused n → counted.Refused n ≡ whole
+  pub refused : (n : Refusal) → g ≡ Refused n → counted.Refused n ≡ total
   unfolding more
   refused n q = turn (Refused n) q .same
 
-  pub next : (r : WordRecord) → g ≡ Record r → Left file whole (at + 16) (records + 1)
+  pub next : (r : WordRecord) → g ≡ Record r → Left file total (at + 16) (records + 1)
   next r q =
       let t = turn (Record r) q in
       record {

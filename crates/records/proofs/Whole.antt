@@ -4,18 +4,18 @@ use mathlib.Core.Bool.{Bool, true, false, cond}
 use Prim.Native.Nat.{ℕ, zero, suc, _+_, _≤_, _<_}
 use native.Mathlib.Nat.{lt-of-not-le}
 use native.Mathlib.Omega.{arith}
-use mathlib.Core.List.{List, [], _∷_, _++_}
+use mathlib.Core.List.{List, [], _∷_, _++_, append-assoc}
 use mathlib.Core.Logic.{dite}
 use native.Mathlib.Decide.{decLe}
 use lib.Dec.{eqb}
 use lib.ListN.{length, getD, take, drop, length-drop, drop-of-length-le, take-append-drop}
 use lib.Seq.{drop-drop}
-use borrow.Author.Tests.{eqb-true, le-leb, lt-leb}
+use borrow.Author.Tests.{eqb-true, ne-eqb, le-leb, lt-leb}
 use Rattle.words.specs.declared.refusals.Refusal.{Refusal}
 use Rattle.records.specs.Numbers.{numberAfter}
 use Rattle.records.specs.Records.{formOf, readOf}
-use Rattle.records.specs.Files.{formsOf, fileOf, openOf, placed, nextOf, Walk, holds, stops, with, goOn, walkFrom, walkAt, walkOf}
-use Rattle.records.specs.Theorems.{Bytes, AllFit, stepOf, NextWalk, FileWritten, OnlyFile, Example}
+use Rattle.records.specs.Files.{formsOf, fileOf, openOf, stepFrom, nextOf, Walk, whole, stops, with, goOn, walkFrom, walkAt, walkOf}
+use Rattle.records.specs.Theorems.{Bytes, AllFit, stepOf, NextWalk, FileWritten, FileStops, OnlyFile, Example}
 use Rattle.records.specs.declared.forms.WordRecord.{WordRecord}
 use Rattle.records.specs.declared.forms.Read.{Read}
 use Rattle.records.specs.declared.forms.Read.the-variants.{Record, Refused}
@@ -25,24 +25,23 @@ use Rattle.records.proofs.Walks.{walk-none, walk-some}
 
 -- ---- the cursor's steps are the walk's
 
-placed-step : (at : ℕ) (g : Read) (w : Walk) → stepOf (placed at g) w ≡ goOn g w
-placed-step at (Record r) w = refl
-placed-step at (Refused n) w = refl
+from-step : (at : ℕ) (g : Read) (w : ℕ → Walk) → stepOf (stepFrom at g) w ≡ goOn g (w (at + 16))
+from-step at (Record r) w = refl
+from-step at (Refused n) w = refl
 
 pub next-walk : NextWalk
 unfolding nextOf
 next-walk file at n =
-    let after = walkFrom n (drop (at + 16) file) in
     dite (decLe (length file) at)
     (λ end. rw (le-leb _ _ end) (ap (walkFrom (suc n)) (drop-of-length-le file end) ∙ walk-none (suc n)))
     (λ more.
     let l : at < length file = lt-of-not-le more in
     rw (lt-leb _ _ l, walk-some n (drop at file) (omega (arith, length-drop at file)), drop-drop 16 at file)
-    (sym (placed-step at (readOf (drop at file)) after)))
+    (sym (from-step at (readOf (drop at file)) (λ (place : ℕ). walkFrom n (drop place file)))))
 
 -- ---- a written file is read as its records
 
-forms-walk : (n : ℕ) (rs : List WordRecord) → length (formsOf rs) ≤ n → AllFit rs → walkFrom n (formsOf rs) ≡ holds rs
+forms-walk : (n : ℕ) (rs : List WordRecord) → length (formsOf rs) ≤ n → AllFit rs → walkFrom n (formsOf rs) ≡ whole rs
 unfolding formsOf
 forms-walk n [] l fit = walk-none n
 forms-walk zero (r ∷ rs) l fit = absurd (omega arith)
@@ -54,29 +53,49 @@ pub file-written : FileWritten
 unfolding walkOf openOf
 file-written rs fit = forms-walk (length (fileOf rs)) rs (omega arith) fit
 
+-- ---- a file that stops
+
+forms-stop : (n : ℕ) (rs : List WordRecord) (rest : List ℕ) (k : Refusal) → length (formsOf rs ++ rest) ≤ n → AllFit rs → 0 < length rest → readOf rest ≡ Refused k → walkFrom n (formsOf rs ++ rest) ≡ stops k
+unfolding formsOf
+forms-stop zero [] rest k l fit some e = absurd (omega arith)
+forms-stop (suc n) [] rest k l fit some e = walk-some n rest some ∙ ap (λ (g : Read). goOn g (walkFrom n (drop 16 rest))) e
+forms-stop zero (r ∷ rs) rest k l fit some e = absurd (omega arith)
+forms-stop (suc n) (r ∷ rs) rest k l fit some e =
+    let bytes : (formOf r ++ formsOf rs) ++ rest ≡ formOf r ++ (formsOf rs ++ rest) = append-assoc (formOf r) (formsOf rs) rest in
+    walk-some n ((formOf r ++ formsOf rs) ++ rest) (omega arith)
+    ∙ ap₂ goOn (ap readOf bytes ∙ read-written r (formsOf rs ++ rest) (fit .0)) (forms-stop n rs rest k (omega arith) (fit .1) some e)
+
+pub file-refused : FileStops
+unfolding walkOf openOf
+file-refused = record {
+  no-byte = refl;
+  other-version = λ first rest h. rw (ne-eqb first 1 h);
+  at-record = λ rs rest k fit some e. forms-stop (length (fileOf rs ++ rest)) rs rest k (omega arith) fit some e;
+}
+
 -- ---- and only that file
 
 -- holding is not stopping
-never : (n : Refusal) (rs : List WordRecord) → stops n ≡ holds rs → ⊥
+never : (n : Refusal) (rs : List WordRecord) → stops n ≡ whole rs → ⊥
 never n rs h = let z : _≡_ {A = ℕ} 0 1 = cc in omega arith
 
 -- by what stands first and what follows it
-held-by : (s : List ℕ) (rs : List WordRecord) (g : Read) (w : Walk) → Bytes s → readOf s ≡ g → ((ts : List WordRecord) → w ≡ holds ts → drop 16 s ≡ formsOf ts) → goOn g w ≡ holds rs → s ≡ formsOf rs
+held-by : (s : List ℕ) (rs : List WordRecord) (g : Read) (w : Walk) → Bytes s → readOf s ≡ g → ((ts : List WordRecord) → w ≡ whole ts → drop 16 s ≡ formsOf ts) → goOn g w ≡ whole rs → s ≡ formsOf rs
 unfolding formsOf
 held-by s rs (Refused n) w h e rest q = absurd (never n rs q)
 held-by s rs (Record r) (stops n) h e rest q = absurd (never n rs q)
-held-by s rs (Record r) (holds ts) h e rest q =
+held-by s rs (Record r) (whole ts) h e rest q =
     let all : rs ≡ r ∷ ts = cc in
     sym (take-append-drop 16 s) ∙ ap₂ _++_ (only-form s r h e) (rest ts refl) ∙ sym (ap formsOf all)
 
-none-held : (n : ℕ) (rs : List WordRecord) → walkFrom n [] ≡ holds rs → [] ≡ formsOf rs
+none-held : (n : ℕ) (rs : List WordRecord) → walkFrom n [] ≡ whole rs → [] ≡ formsOf rs
 unfolding formsOf
 none-held n rs q =
-    let none : holds [] ≡ holds rs = sym (walk-none n) ∙ q in
+    let none : whole [] ≡ whole rs = sym (walk-none n) ∙ q in
     let same : [] ≡ rs = cc in
     ap formsOf same
 
-walk-held : (n : ℕ) (s : List ℕ) (rs : List WordRecord) → length s ≤ n → Bytes s → walkFrom n s ≡ holds rs → s ≡ formsOf rs
+walk-held : (n : ℕ) (s : List ℕ) (rs : List WordRecord) → length s ≤ n → Bytes s → walkFrom n s ≡ whole rs → s ≡ formsOf rs
 walk-held zero [] rs l h q = none-held zero rs q
 walk-held zero (x ∷ s) rs l h q = absurd (omega arith)
 walk-held (suc n) [] rs l h q = none-held (suc n) rs q
@@ -87,7 +106,7 @@ walk-held (suc n) (x ∷ s) rs l h q =
 
 -- by whether the first byte is the version
 file-by : (x : ℕ) (s : List ℕ) (rs : List WordRecord) (b : Bool) → eqb x 1 ≡ b → Bytes (x ∷ s)
-    → walkAt (cond b (opened.At (record { at = 1 })) (opened.Refused (record { 0 = 8 }))) (x ∷ s) ≡ holds rs → x ∷ s ≡ fileOf rs
+    → walkAt (cond b (opened.At (record { at = 1 })) (opened.Refused (record { 0 = 8 }))) (x ∷ s) ≡ whole rs → x ∷ s ≡ fileOf rs
 file-by x s rs true e h q = ap₂ _∷_ (eqb-true x 1 e) (walk-held (suc (length s)) s rs (omega arith) (λ i. h (suc i)) q)
 file-by x s rs false e h q = absurd (never (record { 0 = 8 }) rs q)
 

@@ -10,7 +10,7 @@ numberAfter high (byte ∷ bytes) = numberAfter (high * 256 + byte) bytes
 abbrev pub numberOf : List ℕ → ℕ
 numberOf bytes = numberAfter 0 bytes
 
--- A number in that many bytes.
+-- A number in that many bytes, its low ones where it does not fit.
 abbrev pub bytesOf : ℕ → ℕ → List ℕ
 bytesOf zero number = []
 bytesOf (suc n) number = bytesOf n (number / 256) ++ (number % 256 ∷ [])

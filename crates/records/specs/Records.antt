@@ -11,15 +11,22 @@ use Rattle.records.specs.declared.forms.WordRecord.{WordRecord}
 use Rattle.records.specs.declared.forms.Read.{Read}
 use Rattle.records.specs.declared.forms.Read.the-variants.{Record, Refused}
 
+-- "Each record: length (2 bytes, always 14)", in all 16 bytes.
+abbrev pub lengthNumber : ℕ
+lengthNumber = 14
+
+abbrev pub recordBytes : ℕ
+recordBytes = 16
+
 -- "time (8), bus (1: 0 is A, 1 is B), sync (1: 0 command/status, 1 data, 2 neither), receiver faults (1: 1 Manchester, 2 bit count, 3 both,
--- 0 none), word (2), parity bit (1)": which numbers are in range. The word is any of 16 bits.
+-- 0 none), word (2), parity bit (1)": which numbers are in range. A time is "0 to 2^48 - 1", a parity bit 0 or 1, the word any of 16 bits.
 abbrev pub inRange : WordRecord → Bool
 inRange r = onClock (r .time .0) && leb (r .bus) 1 && leb (r .sync) 2 && leb (r .faults) 3 && leb (r .parity) 1
 
 -- "Each record: length (2 bytes, always 14), time (8), bus (1: ..), sync (1: ..), receiver faults (1: ..), word (2), parity bit (1)."
 abbrev pub formOf : WordRecord → List ℕ
 formOf r =
-    bytesOf 2 14 ++ (bytesOf 8 (r .time .0) ++ (r .bus ∷ r .sync ∷ r .faults ∷ (bytesOf 2 (r .word) ++ (r .parity ∷ []))))
+    bytesOf 2 lengthNumber ++ (bytesOf 8 (r .time .0) ++ (r .bus ∷ r .sync ∷ r .faults ∷ (bytesOf 2 (r .word) ++ (r .parity ∷ []))))
 
 -- The record that 16 bytes spell.
 abbrev pub recordAt : List ℕ → WordRecord
@@ -35,8 +42,8 @@ recordAt bytes = record {
 -- Reading: "fewer than 16 bytes for a record" 3, "record length not 14" 4, "a field or a time out of range" 5.
 unfoldable pub readOf : List ℕ → Read
 readOf bytes =
-    cond (ltb (length bytes) 16) (Refused (record { 0 = refusedShortRecord }))
-    (cond (eqb (numberOf (take 2 bytes)) 14)
+    cond (ltb (length bytes) recordBytes) (Refused (record { 0 = refusedShortRecord }))
+    (cond (eqb (numberOf (take 2 bytes)) lengthNumber)
     (cond (inRange (recordAt bytes)) (Record (recordAt bytes)) (Refused (record { 0 = refusedOutOfRange })))
     (Refused (record { 0 = refusedRecordLength })))
 
@@ -47,8 +54,8 @@ refusalOf (Refused n) = n .0
 
 -- "Writing: 9, 5.": "fewer than 16 bytes to write a record", then "a field or a time out of range".
 unfoldable pub writeRefusal : WordRecord → List ℕ → ℕ
-writeRefusal r bytes = cond (ltb (length bytes) 16) refusedNoRoom (cond (inRange r) notRefused refusedOutOfRange)
+writeRefusal r bytes = cond (ltb (length bytes) recordBytes) refusedNoRoom (cond (inRange r) notRefused refusedOutOfRange)
 
--- "A refusal gives its number and nothing else; state, tables and buffers stay."
+-- The first 16 bytes are the form, all others as before. "A refusal gives its number and nothing else; state, tables and buffers stay."
 unfoldable pub writtenOf : WordRecord → List ℕ → List ℕ
-writtenOf r bytes = cond (eqb (writeRefusal r bytes) notRefused) (formOf r ++ drop 16 bytes) bytes
+writtenOf r bytes = cond (eqb (writeRefusal r bytes) notRefused) (formOf r ++ drop recordBytes bytes) bytes

@@ -1,14 +1,15 @@
--- What holds of records and files beyond each function's own promise. Each is proved in proofs/ under the name at its side. Assumes
+-- What whole of records and files beyond each function's own promise. Each is proved in proofs/ under the name at its side. Assumes
 -- nothing.
-use Prim.Native.Nat.{ℕ, suc, _+_, _^_, _≤_, _<_}
+use Prim.Native.Nat.{ℕ, suc, _^_, _≤_, _<_}
 use mathlib.Core.Path.{_≡_}
 use mathlib.Core.Bool.{true, false}
 use mathlib.Core.List.{List, [], _∷_, _++_}
 use lib.ListN.{length, getD, take, drop}
-use Rattle.words.specs.Refusals.{notRefused, refusedShortRecord, refusedRecordLength, refusedOutOfRange}
+use Rattle.words.specs.Refusals.{notRefused, refusedShortRecord, refusedRecordLength, refusedOutOfRange, refusedWrongVersion}
 use Rattle.records.specs.Numbers.{numberOf}
-use Rattle.records.specs.Records.{inRange, formOf, recordAt, readOf, writeRefusal, writtenOf}
-use Rattle.records.specs.Files.{fileOf, nextOf, Walk, holds, stops, with, walkFrom, walkOf}
+use Rattle.records.specs.Records.{recordBytes, inRange, formOf, recordAt, readOf, writeRefusal, writtenOf}
+use Rattle.records.specs.Files.{version, fileOf, nextOf, Walk, whole, stops, with, walkFrom, walkOf}
+use Rattle.words.specs.declared.refusals.Refusal.{Refusal}
 use Rattle.records.specs.declared.forms.WordRecord.{WordRecord}
 use Rattle.records.specs.declared.forms.Read.the-variants.{Record, Refused}
 use Rattle.records.specs.declared.files.Next.{Next}
@@ -31,13 +32,21 @@ AllFit (r ∷ rs) = Fits r × AllFit rs
 abbrev pub ReadWritten : Type 0
 ReadWritten = (r : WordRecord) (after : List ℕ) → Fits r → readOf (formOf r ++ after) ≡ Record r
 
--- And so are the bytes that a write leaves: write-read
+-- Writing such a record where there is room is not refused, is read back, and leaves all bytes behind the first 16: write-read
 abbrev pub WriteRead : Type 0
-WriteRead = (r : WordRecord) (bytes : List ℕ) → Fits r → writeRefusal r bytes ≡ notRefused → readOf (writtenOf r bytes) ≡ Record r
+WriteRead =
+    (r : WordRecord) (bytes : List ℕ) → Fits r → recordBytes ≤ length bytes
+    → (writeRefusal r bytes ≡ notRefused)
+    × (readOf (writtenOf r bytes) ≡ Record r)
+    × (drop recordBytes (writtenOf r bytes) ≡ drop recordBytes bytes)
 
 -- Bytes that are read as a record are its written form: only-form
 abbrev pub OnlyForm : Type 0
 OnlyForm = (bytes : List ℕ) (r : WordRecord) → Bytes bytes → readOf bytes ≡ Record r → take 16 bytes ≡ formOf r
+
+-- What is read can be written: read-fits
+abbrev pub ReadFits : Type 0
+ReadFits = (bytes : List ℕ) (r : WordRecord) → Bytes bytes → readOf bytes ≡ Record r → Fits r
 
 -- So no two byte forms are read as one record: one-form
 abbrev pub OneForm : Type 0
@@ -46,29 +55,39 @@ OneForm =
     → take 16 bytes ≡ take 16 others
 
 -- Which bytes are refused, with which number, and that no others are: refused-exactly
-pub record RefusedExactly (bytes : List ℕ) : Type 0 where
+pub record ReadCases (bytes : List ℕ) : Type 0 where
   pub short : length bytes < 16 → readOf bytes ≡ Refused (record { 0 = refusedShortRecord })
   pub length-wrong : 16 ≤ length bytes → (numberOf (take 2 bytes) ≡ 14 → ⊥) → readOf bytes ≡ Refused (record { 0 = refusedRecordLength })
   pub out-of-range : 16 ≤ length bytes → numberOf (take 2 bytes) ≡ 14 → inRange (recordAt bytes) ≡ false → readOf bytes ≡ Refused (record { 0 = refusedOutOfRange })
   pub no-other : 16 ≤ length bytes → numberOf (take 2 bytes) ≡ 14 → inRange (recordAt bytes) ≡ true → readOf bytes ≡ Record (recordAt bytes)
 
--- What a step of the cursor adds to what follows it.
-abbrev pub stepOf : Next → Walk → Walk
-stepOf (next.Record r c) rest = with r rest
-stepOf next.End rest = holds []
+abbrev pub RefusedExactly : Type 0
+RefusedExactly = (bytes : List ℕ) → ReadCases bytes
+
+-- What a step of the cursor adds to the walk from the place after it.
+abbrev pub stepOf : Next → (ℕ → Walk) → Walk
+stepOf (next.Record r c) rest = with r (rest (c .at))
+stepOf next.End rest = whole []
 stepOf (next.Refused n) rest = stops n
 
 -- The cursor's steps are those of the walk over the whole file: next-walk
 abbrev pub NextWalk : Type 0
-NextWalk = (file : List ℕ) (at n : ℕ) → walkFrom (suc n) (drop at file) ≡ stepOf (nextOf file at) (walkFrom n (drop (at + 16) file))
+NextWalk = (file : List ℕ) (at n : ℕ) → walkFrom (suc n) (drop at file) ≡ stepOf (nextOf file at) (λ (place : ℕ). walkFrom n (drop place file))
 
 -- A written file is read as its records: file-written
 abbrev pub FileWritten : Type 0
-FileWritten = (rs : List WordRecord) → AllFit rs → walkOf (fileOf rs) ≡ holds rs
+FileWritten = (rs : List WordRecord) → AllFit rs → walkOf (fileOf rs) ≡ whole rs
 
 -- And only that file is: only-file
 abbrev pub OnlyFile : Type 0
-OnlyFile = (file : List ℕ) (rs : List WordRecord) → Bytes file → walkOf file ≡ holds rs → file ≡ fileOf rs
+OnlyFile = (file : List ℕ) (rs : List WordRecord) → Bytes file → walkOf file ≡ whole rs → file ≡ fileOf rs
+
+-- "Reading a file: 8, then record by record 3, 4, 5": a file stops at its version, or behind good records at what reading refuses:
+-- file-refused
+pub record FileStops : Type 0 where
+  pub no-byte : walkOf [] ≡ stops (record { 0 = refusedWrongVersion })
+  pub other-version : (first : ℕ) (rest : List ℕ) → (first ≡ version → ⊥) → walkOf (first ∷ rest) ≡ stops (record { 0 = refusedWrongVersion })
+  pub at-record : (rs : List WordRecord) (rest : List ℕ) (n : Refusal) → AllFit rs → 0 < length rest → readOf rest ≡ Refused n → walkOf (fileOf rs ++ rest) ≡ stops n
 
 -- "A file of one record, time 1000, bus A, command 2842, parity 1, is whole: `01 00 0E 00 00 00 00 00 00 03 E8 00 00 00 28 42 01`": example
 abbrev pub exampleRecord : WordRecord
@@ -79,4 +98,4 @@ exampleFile =
     0x01 ∷ 0x00 ∷ 0x0E ∷ 0x00 ∷ 0x00 ∷ 0x00 ∷ 0x00 ∷ 0x00 ∷ 0x00 ∷ 0x03 ∷ 0xE8 ∷ 0x00 ∷ 0x00 ∷ 0x00 ∷ 0x28 ∷ 0x42 ∷ 0x01 ∷ []
 
 abbrev pub Example : Type 0
-Example = (fileOf (exampleRecord ∷ []) ≡ exampleFile) × (walkOf exampleFile ≡ holds (exampleRecord ∷ []))
+Example = (fileOf (exampleRecord ∷ []) ≡ exampleFile) × (walkOf exampleFile ≡ whole (exampleRecord ∷ []))

@@ -3,6 +3,7 @@
 ghost use mathlib.Core.Path.{_≡_};
 ghost use lib.ListN.{length, drop};
 ghost use Rattle.records.specs.Files.{openOf, nextOf, walkFrom, counts, countedOf};
+use crate::forms::RECORD_BYTES;
 use crate::forms::Read;
 use crate::forms::WordRecord;
 use crate::forms::read_record;
@@ -60,13 +61,19 @@ impl Cursor {
             return Next::End;
         }
         match read_record(&file[at..]) {
-            Read::Record(record) => Next::Record(record, Cursor { at: at + 16 }),
+            Read::Record(record) => Next::Record(
+                record,
+                Cursor {
+                    at: at + RECORD_BYTES,
+                },
+            ),
             Read::Refused(refusal) => Next::Refused(refusal),
         }
     }
 }
 
-// Gives how many records the file holds from a place on, or the first refusal.
+// Gives how many records the file holds from a place on, or the first refusal. It reads by itself and not by the cursor, so that the
+// loop carries two numbers.
 fn count_from(file: &[u8], start: Cursor) -> Counted
     ensures counted { λ r. ⌜ r ≡ counts (walkFrom (length (now (file .entry))) (drop (start .at) (now (file .entry)))) ⌝ }
 {
@@ -76,7 +83,7 @@ fn count_from(file: &[u8], start: Cursor) -> Counted
         match read_record(&file[at..]) {
             Read::Record(_) => {
                 records += 1;
-                at += 16;
+                at += RECORD_BYTES;
             }
             Read::Refused(refusal) => {
                 return Counted::Refused(refusal);

@@ -3,10 +3,15 @@
 ghost use mathlib.Core.Path.{_≡_};
 ghost use Prim.Native.Nat.{_≤_};
 ghost use lib.ListN.{length};
-ghost use Rattle.records.specs.Records.{inRange, formOf, recordAt, readOf, refusalOf, writeRefusal, writtenOf};
+ghost use Rattle.records.specs.Records.{inRange, formOf, recordAt, readOf, writeRefusal, writtenOf};
 use crate::numbers::number;
 use words::Moment;
 use words::Refusal;
+
+// "length (2 bytes, always 14)", and the bytes of a record in all.
+const LENGTH: u64 = 14;
+
+pub(crate) const RECORD_BYTES: usize = 16;
 
 // A word as the receiver handed it over. Any numbers fit; `in_range` says which can be written and read.
 pub struct WordRecord {
@@ -46,7 +51,7 @@ impl WordRecord {
         let t7 = t6 >> 8;
         [
             0,
-            14,
+            LENGTH as u8,
             (t7 % 256) as u8,
             (t6 % 256) as u8,
             (t5 % 256) as u8,
@@ -64,14 +69,14 @@ impl WordRecord {
         ]
     }
 
-    // Writes the record at the front of the bytes.
+    // Gives no refusal and writes the record at the front of the bytes, or gives the number of the refusal.
     // Tables: the first 16 of bytes are the record's form, all others as before; after a refusal every byte is as before.
     // Refusals: 9, fewer than 16 bytes; 5, a field or the time out of range.
     pub fn write(self, bytes: &mut [u8]) -> Refusal
         ensures refusal { λ r. ⌜ r .0 ≡ writeRefusal self (now (bytes .entry)) ⌝ }
         ensures bytes { λ _. ⌜ now (bytes .exit) ≡ writtenOf self (now (bytes .entry)) ⌝ }
     {
-        if bytes.len() < 16 {
+        if bytes.len() < RECORD_BYTES {
             return Refusal::NO_ROOM;
         }
         if self.in_range() {
@@ -88,17 +93,6 @@ impl WordRecord {
 pub enum Read {
     Record(WordRecord),
     Refused(Refusal),
-}
-
-// Gives the number of the refusal, 0 for a record.
-// Tables: none. Refusals: none.
-pub fn refusal_of(read: Read) -> Refusal
-    ensures number { λ r. ⌜ r .0 ≡ refusalOf read ⌝ }
-{
-    match read {
-        Read::Record(_) => Refusal::NONE,
-        Read::Refused(refusal) => refusal,
-    }
 }
 
 // Gives the record that 16 bytes spell, in range or not.
@@ -123,10 +117,10 @@ fn spelled(bytes: &[u8]) -> WordRecord
 pub fn read_record(bytes: &[u8]) -> Read
     ensures read { λ r. ⌜ r ≡ readOf (now (bytes .entry)) ⌝ }
 {
-    if bytes.len() < 16 {
+    if bytes.len() < RECORD_BYTES {
         return Read::Refused(Refusal::SHORT_RECORD);
     }
-    if number(&bytes[0..2]) != 14 {
+    if number(&bytes[0..2]) != LENGTH {
         return Read::Refused(Refusal::RECORD_LENGTH);
     }
     let record = spelled(bytes);

@@ -14,4 +14,3 @@ pub use files::open_file;
 pub use forms::Read;
 pub use forms::WordRecord;
 pub use forms::read_record;
-pub use forms::refusal_of;

@@ -7,7 +7,8 @@ ghost use Rattle.records.specs.Numbers.{numberOf};
 // Gives the number that the bytes spell, the highest first.
 pub(crate) fn number(bytes: &[u8]) -> u64
     requires { ⌜ length (now bytes) ≤ 8 ⌝ }
-    ensures { λ r. ⌜ (r ≡ numberOf (now (bytes .entry))) × (r < 256 ^ length (now (bytes .entry))) ⌝ }
+    ensures number { λ r. ⌜ r ≡ numberOf (now (bytes .entry)) ⌝ }
+    ensures fits { λ r. ⌜ r < 256 ^ length (now (bytes .entry)) ⌝ }
 {
     let mut value: u64 = 0;
     let mut i = 0;

@@ -1,5 +1,4 @@
--- `record::number` meets its contract. The invariant: v is the number that the first i bytes spell.
--- Assumes nothing.
+-- The loop's invariant: value is the number that the first i bytes spell. Assumes nothing.
 use mathlib.Core.Path.{_≡_, refl, ap, sym, _∙_}
 use Prim.Native.Nat.{ℕ, _+_, _*_, _^_, _-_, _≤_, _<_}
 use native.Mathlib.Nat.{pow-le-pow-right, pow-suc, lt-of-lt-of-le}
