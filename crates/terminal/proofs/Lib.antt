@@ -1,0 +1,7 @@
+pub mod Accepted
+pub mod Copies
+pub mod Counts
+pub mod Phases
+pub mod Places
+pub mod Spans
+pub mod Wrapped

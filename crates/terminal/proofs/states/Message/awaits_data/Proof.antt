@@ -1,0 +1,18 @@
+-- The phase, and the words so far. Assumes nothing.
+use Rattle.terminal.specs.Messages.{awaitsData}
+use borrow.Author.Needs.{needs}
+use Rattle.terminal.proofs.states.Message.awaits_data.Statement.{statement}
+use Rattle.terminal.proofs.states.Message.awaits_data.Tie as tie
+
+is-counting-requires : tie.Need-is-counting-requires
+is-counting-requires c κs = search needs
+
+awaited-requires : tie.Need-awaited-requires
+awaited-requires c κs = search needs
+
+returns : tie.Need-returns
+unfolding awaitsData
+returns c = rw (c .before .awaited .ensures, c .before .before .is-counting .ensures)
+
+pub awaits-data-spec : {M : Type 1} → statement M
+awaits-data-spec = tie.close (tie.spec is-counting-requires awaited-requires returns)

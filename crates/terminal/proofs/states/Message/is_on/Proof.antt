@@ -1,0 +1,15 @@
+-- The phase, and the bus. Assumes nothing.
+use Rattle.terminal.specs.Messages.{isOn}
+use borrow.Author.Needs.{needs}
+use Rattle.terminal.proofs.states.Message.is_on.Statement.{statement}
+use Rattle.terminal.proofs.states.Message.is_on.Tie as tie
+
+is-under-requires : tie.Need-is-under-requires
+is-under-requires c κs = search needs
+
+returns : tie.Need-returns
+unfolding isOn
+returns c = rw (c .before .is-under .ensures)
+
+pub is-on-spec : {M : Type 1} → statement M
+is-on-spec = tie.close (tie.spec is-under-requires returns)

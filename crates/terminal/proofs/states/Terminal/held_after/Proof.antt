@@ -1,0 +1,44 @@
+-- By whether it is a legal mode command. Assumes nothing.
+use Rattle.terminal.specs.Effects.{heldAfter}
+use borrow.Author.Needs.{needs}
+use Rattle.terminal.proofs.states.Terminal.held_after.Statement.{statement}
+use Rattle.terminal.proofs.states.Terminal.held_after.Tie as tie
+
+with-status-requires : tie.Need-with-status-requires
+with-status-requires c κs = search needs
+
+is-legal-requires : tie.Need-is-legal-requires
+is-legal-requires c κs = search needs
+
+is-mode-requires : tie.Need-is-mode-requires
+is-mode-requires c κs = search needs
+
+count-requires : tie.Need-count-requires
+count-requires c κs = search needs
+
+element-copy-out-effect : tie.Need-element-copy-out-effect
+element-copy-out-effect c = search needs
+
+effect-requires : tie.Need-effect-requires
+effect-requires c κs = search needs
+
+returns : tie.Need-returns
+unfolding heldAfter
+returns c = rw (← c .before .before .before .before .before .is-legal .ensures, ← c .before .before .before .before .is-mode .ensures, c .before .before .before .if1 .taken, c .effect .ensures, c .before .before .count .ensures, c .before .before .before .before .before .before .with-status .ensures)
+
+returns-2 : tie.Need-returns-2
+unfolding heldAfter
+returns-2 c = rw (← c .before .before .is-legal .ensures, ← c .before .is-mode .ensures, c .if1 .left, c .before .before .before .with-status .ensures)
+
+pub held-after-spec : {M : Type 1} → statement M
+held-after-spec =
+    tie.close
+    (tie.spec
+    with-status-requires
+    is-legal-requires
+    is-mode-requires
+    count-requires
+    element-copy-out-effect
+    effect-requires
+    returns
+    returns-2)

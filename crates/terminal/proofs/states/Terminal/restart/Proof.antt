@@ -1,0 +1,19 @@
+-- Each part fresh. Assumes nothing.
+use borrow.Author.Needs.{needs}
+use Rattle.terminal.proofs.states.Terminal.restart.Statement.{statement}
+use Rattle.terminal.proofs.states.Terminal.restart.Tie as tie
+
+fresh-requires : tie.Need-fresh-requires
+fresh-requires c κs = search needs
+
+none-requires : tie.Need-none-requires
+none-requires c κs = search needs
+
+none-requires-2 : tie.Need-none-requires-2
+none-requires-2 c κs = search needs
+
+returns : tie.Need-returns
+returns c = rw (c .none2 .ensures, c .before .none .ensures, c .before .before .fresh .ensures)
+
+pub restart-spec : {M : Type 1} → statement M
+restart-spec = tie.close (tie.spec fresh-requires none-requires none-requires-2 returns)

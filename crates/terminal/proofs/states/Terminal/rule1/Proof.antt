@@ -1,0 +1,38 @@
+-- By whether the message is due. Assumes nothing.
+use mathlib.Core.Path.{refl, sym, _∙_}
+use native.Mathlib.Omega.{arith}
+use Rattle.terminal.specs.Rules.{rule1Answer, rule1Receive, rule1}
+use Rattle.terminal.proofs.Counts.{due-most}
+use borrow.Author.Needs.{needs}
+use Rattle.terminal.proofs.states.Terminal.rule1.Statement.{statement}
+use Rattle.terminal.proofs.states.Terminal.rule1.Tie as tie
+
+is-due-requires : tie.Need-is-due-requires
+is-due-requires c κs = search needs
+
+settle-requires : tie.Need-settle-requires
+settle-requires c κs = (search needs, search needs, omega (arith, due-most (c .before .before .before .before .before .args .self .message) (c .before .before .before .before .before .args .time .0) (sym (c .before .before .is-due .ensures) ∙ c .before .if1 .taken)))
+
+same-length : tie.Need-same-length
+same-length c = search needs
+
+returns : tie.Need-returns
+unfolding rule1Answer rule1Receive rule1
+returns c =
+    let due = sym (c .before .before .before .before .before .is-due .ensures) ∙ c .before .before .before .before .if1 .taken in
+    let gave = c .before .before .settle .ensures in
+    (rw due (gave .0), (rw due (gave .1 .0), rw due (gave .1 .1)))
+
+none-requires : tie.Need-none-requires
+none-requires c κs = search needs
+
+returns-2 : tie.Need-returns-2
+unfolding rule1Answer rule1Receive rule1
+returns-2 c =
+    let due = sym (c .before .before .is-due .ensures) ∙ c .before .if1 .left in
+    (rw due (c .none .ensures), (rw due refl, rw due refl))
+
+pub rule1-spec : {M : Type 1} → statement M
+rule1-spec =
+    tie.close
+    (tie.spec is-due-requires settle-requires same-length returns none-requires returns-2)

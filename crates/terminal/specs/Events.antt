@@ -1,0 +1,150 @@
+-- Document 01, "The terminal": set-up, an event whole with its refusals, host calls, next moment. Assumes nothing.
+use Prim.Native.Nat.{ℕ, _+_}
+use mathlib.Core.Bool.{Bool, true, false, cond, _&&_}
+use mathlib.Core.List.{List, [], _∷_}
+use lib.Dec.{eqb, ltb, leb}
+use lib.ListN.{length, replicate}
+use Rattle.words.specs.Words.{onClock, plusOf, dueDistance}
+use Rattle.words.specs.Refusals.{notRefused, refusedTableSize, refusedOwnAddress, refusedOutOfRange, refusedOutOfOrder}
+use Rattle.records.specs.Records.{inRange}
+use Rattle.records.specs.declared.forms.WordRecord.{WordRecord}
+use Rattle.terminal.specs.States.{noMessage, noSending, freshHeld, freshOf}
+use Rattle.terminal.specs.Messages.{awaitsData, isWhole}
+use Rattle.terminal.specs.Settling.{noAnswer}
+use Rattle.terminal.specs.Effects.{withSelftest}
+use Rattle.terminal.specs.Rules.{rule1, rule1Answer, rule1Receive, rule2, rules3to6, cutsSending}
+use Rattle.terminal.specs.declared.states.Host.{Host}
+use Rattle.terminal.specs.declared.states.Message.{Message}
+use Rattle.terminal.specs.declared.states.Setup.{Setup}
+use Rattle.terminal.specs.declared.states.Terminal.{Terminal as State}
+use Rattle.terminal.specs.declared.events.Event.{Event}
+use Rattle.terminal.specs.declared.events.Event.the-variants.{Mark, Word}
+use Rattle.terminal.specs.declared.events.Happened.{Happened}
+use Rattle.terminal.specs.declared.hosts.NextMoment.{NextMoment}
+use Rattle.terminal.specs.declared.hosts.NextMoment.the-variants.{At, Never}
+use Rattle.terminal.specs.declared.setups.SetUp.{SetUp}
+
+-- ---- set-up
+
+-- "Set-up: 1, 2.": "a lent mask table not 32 masks"; "own address above 30"
+unfoldable pub setUpRefusal : ℕ → ℕ → ℕ → ℕ
+setUpRefusal address receive transmit =
+    cond (eqb receive 32 && eqb transmit 32) (cond (leb address 30) notRefused refusedOwnAddress) refusedTableSize
+
+-- The terminal that a refused set-up gives: address 0, nothing legal (house).
+abbrev pub nothingLegal : Setup
+nothingLegal = record { address = 0; receive = replicate 32 0; transmit = replicate 32 0 }
+
+unfoldable pub setUpOf : ℕ → List ℕ → List ℕ → SetUp
+setUpOf address receive transmit =
+    cond (eqb (setUpRefusal address (length receive) (length transmit)) notRefused)
+    (record { refusal = record { 0 = notRefused }; terminal = freshOf (record { address = address; receive = receive; transmit = transmit }) })
+    (record { refusal = record { 0 = setUpRefusal address (length receive) (length transmit) }; terminal = freshOf nothingLegal })
+
+-- ---- an event
+
+-- "An event is a record or a time mark."
+abbrev pub timeOf : Event → ℕ
+timeOf (Mark t) = t .0
+timeOf (Word r) = r .time .0
+
+abbrev pub isInRange : Event → Bool
+isInRange (Mark t) = onClock (t .0)
+isInRange (Word r) = inRange r
+
+-- "Event: 1, 5, 6.": "a lent word table is not 1,024 words"; "a field or a time out of range"; "event earlier than the last". Of the tables
+-- only their lengths matter.
+unfoldable pub eventRefusal : State → Event → ℕ → ℕ → ℕ
+eventRefusal s e receive transmit =
+    cond (eqb receive 1024 && eqb transmit 1024)
+    (cond (isInRange e) (cond (leb (s .time .0) (timeOf e)) notRefused refusedOutOfOrder) refusedOutOfRange)
+    refusedTableSize
+
+-- The state at the event's time, rules 1 and 2 done; then the record.
+abbrev pub atTime : State → ℕ → State
+atTime s t =
+    record { setup = s .setup; host = s .host; held = s .held; message = s .message; sending = s .sending; time = record { 0 = t } }
+
+unfoldable pub passedOf : State → ℕ → List ℕ → State
+passedOf s t transmit = atTime (rule2 (rule1 s t transmit) t) t
+
+abbrev pub takenOf : State → Event → State
+takenOf s (Mark t) = s
+takenOf s (Word r) = rules3to6 s r
+
+abbrev pub cutOf : State → Event → Bool
+cutOf s (Mark t) = false
+cutOf s (Word r) = cutsSending s r
+
+unfoldable pub happensOf : State → Event → List ℕ → Happened
+happensOf s e transmit = record {
+  refusal = record { 0 = notRefused };
+  answer = rule1Answer s (timeOf e) transmit;
+  cut = cutOf (passedOf s (timeOf e) transmit) e;
+  terminal = takenOf (passedOf s (timeOf e) transmit) e;
+}
+
+-- "A refusal gives its number and nothing else; state, tables and buffers stay."
+abbrev pub refusedOf : State → ℕ → Happened
+refusedOf s n = record { refusal = record { 0 = n }; answer = noAnswer; cut = false; terminal = s }
+
+unfoldable pub eventOf : State → Event → List ℕ → List ℕ → Happened
+eventOf s e receive transmit =
+    cond (eqb (eventRefusal s e (length receive) (length transmit)) notRefused) (happensOf s e transmit)
+    (refusedOf s (eventRefusal s e (length receive) (length transmit)))
+
+unfoldable pub eventReceive : State → Event → List ℕ → List ℕ → List ℕ
+eventReceive s e receive transmit =
+    cond (eqb (eventRefusal s e (length receive) (length transmit)) notRefused) (rule1Receive s (timeOf e) receive) receive
+
+-- ---- host calls
+
+-- "Host calls set the flags (service request, busy, subsystem, terminal fault), vector and BIT words, clear the self-test request, or restart."
+abbrev pub withHost : State → Host → State
+withHost s host =
+    record { setup = s .setup; host = host; held = s .held; message = s .message; sending = s .sending; time = s .time }
+
+abbrev pub withService : Host → Bool → Host
+withService h on =
+    record { service = on; busy = h .busy; subsystem = h .subsystem; fault = h .fault; vector = h .vector; bit = h .bit }
+
+abbrev pub withBusy : Host → Bool → Host
+withBusy h on =
+    record { service = h .service; busy = on; subsystem = h .subsystem; fault = h .fault; vector = h .vector; bit = h .bit }
+
+abbrev pub withSubsystem : Host → Bool → Host
+withSubsystem h on =
+    record { service = h .service; busy = h .busy; subsystem = on; fault = h .fault; vector = h .vector; bit = h .bit }
+
+abbrev pub withFault : Host → Bool → Host
+withFault h on =
+    record { service = h .service; busy = h .busy; subsystem = h .subsystem; fault = on; vector = h .vector; bit = h .bit }
+
+abbrev pub withVector : Host → ℕ → Host
+withVector h word =
+    record { service = h .service; busy = h .busy; subsystem = h .subsystem; fault = h .fault; vector = word; bit = h .bit }
+
+abbrev pub withBit : Host → ℕ → Host
+withBit h word =
+    record { service = h .service; busy = h .busy; subsystem = h .subsystem; fault = h .fault; vector = h .vector; bit = word }
+
+abbrev pub selftestCleared : State → State
+selftestCleared s =
+    record { setup = s .setup; host = s .host; held = withSelftest (s .held) false; message = s .message; sending = s .sending; time = s .time }
+
+-- "8 and restart give the fresh state, host flags and words kept. A restart also ends a message or sending; .. The last event's time stays after
+-- both."
+abbrev pub restartedOf : State → State
+restartedOf s =
+    record { setup = s .setup; host = s .host; held = freshHeld (s .setup .address); message = noMessage; sending = noSending; time = s .time }
+
+-- ---- next moment
+
+-- "The host may ask for the next moment at which time alone matters: the due time, or last word plus 206 while a data word is awaited, or none."
+abbrev pub lateDistance : ℕ
+lateDistance = 206
+
+unfoldable pub nextMomentOf : Message → NextMoment
+nextMomentOf m =
+    cond (isWhole m) (At (record { 0 = plusOf (m .last .0) dueDistance }))
+    (cond (awaitsData m) (At (record { 0 = plusOf (m .last .0) lateDistance })) Never)

@@ -1,0 +1,67 @@
+-- Document 01, "The terminal": the message under way and the sending. Assumes nothing.
+use Prim.Native.Nat.{ℕ, _+_, _*_}
+use mathlib.Core.Bool.{Bool, true, false, not, cond, _&&_, _||_}
+use lib.Dec.{eqb, ltb, leb}
+use Rattle.words.specs.Words.{dueDistance, spacingMost, wordTicks, addressOf, countOf, isTransmit, isMode, isBroadcast, isSpaced, commandSync, dataSync}
+use Rattle.records.specs.declared.forms.WordRecord.{WordRecord}
+use Rattle.terminal.specs.Commands.{isValidRecord, awaitedOf}
+use Rattle.terminal.specs.declared.states.Phase.{Phase}
+use Rattle.terminal.specs.declared.states.Phase.the-variants.{Idle, First, Pledged, Data}
+use Rattle.terminal.specs.declared.states.Message.{Message}
+use Rattle.terminal.specs.declared.states.Sending.{Sending}
+
+-- A message is under way on that bus.
+abbrev pub isUnder : Phase → Bool
+isUnder Idle = false
+isUnder First = true
+isUnder (Pledged address) = true
+isUnder Data = true
+
+unfoldable pub isOn : Message → ℕ → Bool
+isOn m bus = isUnder (m .phase) && eqb (m .bus) bus
+
+-- Its words are counted: not while a status between terminals is awaited.
+abbrev pub isCounting : Phase → Bool
+isCounting Idle = false
+isCounting First = true
+isCounting (Pledged address) = false
+isCounting Data = true
+
+-- A data word is awaited; all words have come.
+unfoldable pub awaitsData : Message → Bool
+awaitsData m = isCounting (m .phase) && ltb (m .got) (awaitedOf (m .command .0))
+
+unfoldable pub isWhole : Message → Bool
+isWhole m = isCounting (m .phase) && leb (awaitedOf (m .command .0)) (m .got)
+
+-- "A message has a due time only once all the words it awaits have come: the last word's time plus 260, a gap of 80 (8.0 microseconds; ..)."
+unfoldable pub isDue : Message → ℕ → Bool
+isDue m t = isWhole m && leb (m .last .0 + dueDistance) t
+
+-- "A message that still awaits a data word with t more than 205 past its last word"
+unfoldable pub isLate : Message → ℕ → Bool
+isLate m t = awaitsData m && ltb (m .last .0 + spacingMost) t
+
+-- "a bus on which the terminal is sending (due time D up to, not including, D + 200 times the words sent)"
+unfoldable pub isSending : Sending → ℕ → ℕ → Bool
+isSending s bus t = s .on && eqb (s .bus) bus && leb (s .from .0) t && ltb t (s .from .0 + wordTicks * s .words)
+
+-- "its next word: valid, data sync, 195 to 205 after the one before"
+unfoldable pub isNextData : Message → WordRecord → Bool
+isNextData m r = isValidRecord r && eqb (r .sync) dataSync && isSpaced (m .last .0) (r .time .0)
+
+-- "directly after a receive command that is no mode command, within 195 to 205, a valid command word may come that transmits, to another
+-- address than ours and 31, no mode command, equal count field."
+unfoldable pub isSecond : ℕ → Message → WordRecord → Bool
+isSecond own m r =
+    isValidRecord r
+    && eqb (r .sync) commandSync
+    && isSpaced (m .last .0) (r .time .0)
+    && isTransmit (r .word)
+    && not (eqb (addressOf (r .word)) own || isBroadcast (r .word))
+    && not (isMode (r .word))
+    && eqb (countOf (r .word)) (countOf (m .command .0))
+
+-- "Then a valid status from that address is awaited"
+unfoldable pub isStatusFrom : ℕ → WordRecord → Bool
+isStatusFrom address r = isValidRecord r && eqb (r .sync) commandSync && eqb (addressOf (r .word)) address

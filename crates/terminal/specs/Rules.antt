@@ -1,0 +1,136 @@
+-- Document 01, "The terminal": "At an event of time t, in this order", rules 1 to 6. Assumes nothing.
+use Prim.Native.Nat.{ℕ, _+_}
+use mathlib.Core.Bool.{Bool, true, false, not, cond, _&&_}
+use mathlib.Core.List.{List}
+use lib.Dec.{eqb}
+use lib.ListN.{set, replicate}
+use Rattle.words.specs.Words.{addressOf, codeOf, isTransmit, isMode, isBroadcast, statusOf, withFlag}
+use Rattle.words.specs.declared.statuses.Flag.the-variants.{MessageError, BroadcastReceived}
+use Rattle.records.specs.declared.forms.WordRecord.{WordRecord}
+use Rattle.terminal.specs.States.{noMessage, noSending}
+use Rattle.terminal.specs.Commands.{isOwn, isExempt}
+use Rattle.terminal.specs.Messages.{isOn, awaitsData, isDue, isLate, isSending, isNextData, isSecond, isStatusFrom}
+use Rattle.terminal.specs.Settling.{otherBus, settledStatus, replyOf, noAnswer, answerOf, sendingOf, storedOf}
+use Rattle.terminal.specs.Effects.{withStatus, withCommand, heldAfter}
+use Rattle.terminal.specs.declared.states.Held.{Held}
+use Rattle.terminal.specs.declared.states.Phase.{Phase}
+use Rattle.terminal.specs.declared.states.Phase.the-variants.{Idle, First, Pledged, Data}
+use Rattle.terminal.specs.declared.states.Message.{Message}
+use Rattle.terminal.specs.declared.states.Terminal.{Terminal as State}
+use Rattle.terminal.specs.declared.answers.Answer.{Answer}
+use Rattle.terminal.specs.declared.answers.Reply.{Reply}
+
+-- The state with other parts.
+abbrev pub withMessage : State → Held → Message → State
+withMessage s held message =
+    record { setup = s .setup; host = s .host; held = held; message = message; sending = s .sending; time = s .time }
+
+-- ---- "1. A message whose due time is at most t is settled."
+
+-- the status and the data words of its answer
+abbrev pub statusNow : State → ℕ
+statusNow s = settledStatus s (s .message .command .0)
+
+abbrev pub replyNow : State → List ℕ → Reply
+replyNow s transmit = replyOf s (s .message .command .0) transmit
+
+-- the answer that it carries, the receive table after it, the state after it
+unfoldable pub rule1Answer : State → ℕ → List ℕ → Answer
+rule1Answer s t transmit = cond (isDue (s .message) t) (answerOf s (statusNow s) (replyNow s transmit)) noAnswer
+
+unfoldable pub rule1Receive : State → ℕ → List ℕ → List ℕ
+rule1Receive s t receive = cond (isDue (s .message) t) (storedOf s receive) receive
+
+unfoldable pub settledOf : State → List ℕ → State
+settledOf s transmit =
+    record {
+      setup = s .setup;
+      host = s .host;
+      held = heldAfter s (statusNow s);
+      message = noMessage;
+      sending = sendingOf s (replyNow s transmit .count);
+      time = s .time;
+    }
+
+unfoldable pub rule1 : State → ℕ → List ℕ → State
+rule1 s t transmit = cond (isDue (s .message) t) (settledOf s transmit) s
+
+-- ---- "2. A message that still awaits a data word with t more than 205 past its last word is faulty."
+
+-- "A faulty message ends at once: message error goes into the stored status (not for the two exempt commands), no answer, no data stored."
+unfoldable pub faultyOf : State → State
+faultyOf s =
+    withMessage s
+    (cond (isExempt (s .setup .address) (s .message .command .0)) (s .held) (withStatus (s .held) (withFlag MessageError (s .held .status .0))))
+    noMessage
+
+unfoldable pub rule2 : State → ℕ → State
+rule2 s t = cond (isLate (s .message) t) (faultyOf s) s
+
+-- ---- "4. An own command replaces any message under way, and cuts a sending on the other bus; the result says so."
+
+-- "It becomes the last command unless it is transmit last command to the own address. The stored status becomes the own address, plus
+-- broadcast received if 31. Transmit status word and transmit last command (to the own address) leave the stored status as it is."
+unfoldable pub notedStatus : ℕ → Held → ℕ → Held
+notedStatus own h word =
+    cond (isExempt own word) h
+    (withStatus h (cond (isBroadcast word) (withFlag BroadcastReceived (statusOf own 0)) (statusOf own 0)))
+
+unfoldable pub notedCommand : ℕ → Held → ℕ → Held
+notedCommand own h word = cond (isExempt own word && eqb (codeOf word) 18) h (withCommand h word)
+
+-- A second command word may follow "a receive command that is no mode command".
+unfoldable pub firstPhase : ℕ → Phase
+firstPhase word = cond (isTransmit word) Data (cond (isMode word) Data First)
+
+unfoldable pub begunOf : WordRecord → Message
+begunOf r =
+    record { phase = firstPhase (r .word); bus = r .bus; command = record { 0 = r .word }; last = r .time; got = 0; words = replicate 32 0 }
+
+unfoldable pub rule4 : State → WordRecord → State
+rule4 s r =
+    record {
+      setup = s .setup;
+      host = s .host;
+      held = notedCommand (s .setup .address) (notedStatus (s .setup .address) (s .held) (r .word)) (r .word);
+      message = begunOf r;
+      sending = noSending;
+      time = s .time;
+    }
+
+unfoldable pub cutsSending : State → WordRecord → Bool
+cutsSending s r = isOwn (s .setup .address) r && not (isSending (s .sending) (r .bus) (r .time .0)) && isSending (s .sending) (otherBus (r .bus)) (r .time .0)
+
+-- ---- "5. Any other record on the bus of a message under way must be its next word: .. Otherwise the message is faulty, also when all its words
+-- had come."
+
+-- the message with its next data word, at its own place
+unfoldable pub stagedOf : Message → WordRecord → Message
+stagedOf m r =
+    record { phase = Data; bus = m .bus; command = m .command; last = r .time; got = m .got + 1; words = set (m .words) (m .got) (r .word) }
+
+-- the message with another phase, its last word now
+unfoldable pub movedOf : Message → Phase → WordRecord → Message
+movedOf m phase r = record { phase = phase; bus = m .bus; command = m .command; last = r .time; got = m .got; words = m .words }
+
+unfoldable pub nextData : State → WordRecord → State
+nextData s r = cond (awaitsData (s .message) && isNextData (s .message) r) (withMessage s (s .held) (stagedOf (s .message) r)) (faultyOf s)
+
+-- "(between terminals also the words named below)"
+unfoldable pub nextWord : Phase → State → WordRecord → State
+nextWord Idle s r = s
+nextWord Data s r = nextData s r
+nextWord First s r =
+    cond (isSecond (s .setup .address) (s .message) r) (withMessage s (s .held) (movedOf (s .message) (Pledged (addressOf (r .word))) r)) (nextData s r)
+nextWord (Pledged address) s r = cond (isStatusFrom address r) (withMessage s (s .held) (movedOf (s .message) Data r)) (faultyOf s)
+
+unfoldable pub rule5 : State → WordRecord → State
+rule5 s r = nextWord (s .message .phase) s r
+
+-- ---- the order of 3 to 6
+
+-- "3. A record on a bus on which the terminal is sending .. is ignored." "6. Other records do nothing."
+unfoldable pub rules3to6 : State → WordRecord → State
+rules3to6 s r =
+    cond (isSending (s .sending) (r .bus) (r .time .0)) s
+    (cond (isOwn (s .setup .address) r) (rule4 s r) (cond (isOn (s .message) (r .bus)) (rule5 s r) s))

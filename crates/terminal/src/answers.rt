@@ -1,0 +1,207 @@
+// The answer of a message that is settled: its status, its data words, whether it is withheld (01 The terminal: "Settling: ..").
+// Meaning: specs/Settling.antt. Inner functions: the event calls them. Refusals: none.
+ghost use mathlib.Core.Path.{_≡_};
+ghost use Prim.Native.Nat.{_+_, _^_, _<_};
+ghost use lib.ListN.{length};
+ghost use Rattle.terminal.specs.Settling.{withIf, settledStatus, noWords, oneWord, tableWords, modeWords, legalReply, replyOf, storesData, isWithheld, noAnswer, answerOf, sendingOf};
+use crate::commands::is_exempt;
+use crate::commands::is_legal;
+use crate::states::Sending;
+use crate::states::Terminal;
+use crate::tables::fetch;
+use crate::tables::is_shut;
+use words::CommandWord;
+use words::Flag;
+use words::Moment;
+use words::StatusWord;
+
+// What an event carries: "(bus, due time, status, number of data words, words)", the words past the number 0; or none.
+pub struct Answer {
+    pub given: bool,
+    pub bus: u8,
+    pub due: Moment,
+    pub status: StatusWord,
+    pub count: u16,
+    pub words: [u16; 32],
+}
+
+// The data words of an answer, those past the number 0.
+pub struct Reply {
+    pub count: u16,
+    pub words: [u16; 32],
+}
+
+impl Answer {
+    // No answer.
+    pub(crate) fn none() -> Answer
+        ensures answer { λ r. ⌜ r ≡ noAnswer ⌝ }
+    {
+        Answer {
+            given: false,
+            bus: 0,
+            due: Moment(0),
+            status: StatusWord(0),
+            count: 0,
+            words: [0; 32],
+        }
+    }
+}
+
+impl Reply {
+    // No data words.
+    fn none() -> Reply
+        ensures reply { λ r. ⌜ r ≡ noWords ⌝ }
+    {
+        Reply {
+            count: 0,
+            words: [0; 32],
+        }
+    }
+
+    // One data word.
+    fn one(word: u16) -> Reply
+        ensures reply { λ r. ⌜ r ≡ oneWord word ⌝ }
+    {
+        let mut words = [0u16; 32];
+        words[0] = word;
+        Reply { count: 1, words }
+    }
+
+    // The words of the command's subaddress, so many as it asks for.
+    fn from_table(table: &[u16], command: CommandWord) -> Reply
+        requires { ⌜ length (now table) ≡ 1024 ⌝ }
+        ensures reply { λ r. ⌜ r ≡ tableWords (now (table .entry)) (command .0) ⌝ }
+    {
+        let count = command.words();
+        let at = 32 * (command.subaddress() as usize);
+        let words = fetch(table, at, count as usize);
+        Reply { count, words }
+    }
+}
+
+// Gives the status with the flag where it is on.
+fn with_if(status: StatusWord, flag: Flag, on: bool) -> StatusWord
+    ensures status { λ r. ⌜ r .0 ≡ withIf on flag (status .0) ⌝ }
+{
+    if on { status.with(flag) } else { status }
+}
+
+impl Terminal {
+    // Gives the status that the answer to the command has, and that is stored then.
+    pub(crate) fn settled_status(self, command: CommandWord) -> StatusWord
+        ensures status { λ r. ⌜ r .0 ≡ settledStatus self (command .0) ⌝ }
+    {
+        let setup = self.setup;
+        let host = self.host;
+        let stored = self.held.status;
+        if is_exempt(setup.address, command) {
+            return stored;
+        }
+        let service = with_if(stored, Flag::ServiceRequest, host.service);
+        let busy = with_if(service, Flag::Busy, host.busy);
+        let subsystem = with_if(busy, Flag::Subsystem, host.subsystem);
+        let fault = with_if(subsystem, Flag::Terminal, host.fault & !self.held.inhibit);
+        with_if(fault, Flag::MessageError, !is_legal(setup, command))
+    }
+
+    // Gives the data word that a legal mode command asks for.
+    fn mode_words(self, command: CommandWord) -> Reply
+        ensures reply { λ r. ⌜ r ≡ modeWords self (command .0) ⌝ }
+    {
+        let code = command.count();
+        if code == 16 {
+            return Reply::one(self.host.vector);
+        }
+        if code == 18 {
+            return Reply::one(self.held.command.0);
+        }
+        if code == 19 {
+            return Reply::one(self.host.bit);
+        }
+        Reply::none()
+    }
+
+    // Gives the data words of the answer to a legal command.
+    fn legal_reply(self, command: CommandWord, table: &[u16]) -> Reply
+        requires { ⌜ length (now table) ≡ 1024 ⌝ }
+        ensures reply { λ r. ⌜ r ≡ legalReply self (command .0) (now (table .entry)) ⌝ }
+    {
+        if command.is_mode() {
+            return self.mode_words(command);
+        }
+        if command.is_transmit() & !self.host.busy {
+            return Reply::from_table(table, command);
+        }
+        Reply::none()
+    }
+
+    // Gives the data words of the answer to the command.
+    pub(crate) fn reply(self, command: CommandWord, table: &[u16]) -> Reply
+        requires { ⌜ length (now table) ≡ 1024 ⌝ }
+        ensures reply { λ r. ⌜ r ≡ replyOf self (command .0) (now (table .entry)) ⌝ }
+    {
+        let setup = self.setup;
+        if is_legal(setup, command) {
+            self.legal_reply(command, table)
+        } else {
+            Reply::none()
+        }
+    }
+
+    // Says whether the message's data words are stored.
+    pub(crate) fn stores_data(self, command: CommandWord) -> bool
+        ensures answer { λ r. ⌜ r ≡ storesData self (command .0) ⌝ }
+    {
+        let setup = self.setup;
+        is_legal(setup, command) & !command.is_mode() & !command.is_transmit() & !self.host.busy
+    }
+
+    // Says whether the answer is withheld.
+    fn is_withheld(self) -> bool
+        ensures answer { λ r. ⌜ r ≡ isWithheld self ⌝ }
+    {
+        let shut = self.held.shut;
+        let message = self.message;
+        message.command.is_broadcast() | is_shut(shut, message.bus)
+    }
+
+    // Gives the answer with that status and these words, or none where it is withheld.
+    pub(crate) fn answer(self, status: StatusWord, reply: Reply) -> Answer
+        requires { ⌜ self .message .last .0 + 260 < 2 ^ 64 ⌝ }
+        ensures answer { λ r. ⌜ r ≡ answerOf self (status .0) reply ⌝ }
+    {
+        if self.is_withheld() {
+            return Answer::none();
+        }
+        let message = self.message;
+        let due = message.last.plus(Self::DUE_DISTANCE);
+        let words = reply.words;
+        Answer {
+            given: true,
+            bus: message.bus,
+            due,
+            status,
+            count: reply.count,
+            words,
+        }
+    }
+
+    // Gives the sending of that answer.
+    pub(crate) fn sending(self, count: u16) -> Sending
+        requires { ⌜ self .message .last .0 + 260 < 2 ^ 64 ⌝ }
+        requires { ⌜ count < 65535 ⌝ }
+        ensures sending { λ r. ⌜ r ≡ sendingOf self count ⌝ }
+    {
+        if self.is_withheld() {
+            return Sending::none();
+        }
+        let message = self.message;
+        let from = message.last.plus(Self::DUE_DISTANCE);
+        Sending {
+            on: true,
+            bus: message.bus,
+            from,
+            words: count + 1,
+        }
+    }
+}

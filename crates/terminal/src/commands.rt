@@ -1,0 +1,81 @@
+// What a command is to the terminal: own, exempt, legal, and how many data words it awaits (01 The terminal). Meaning:
+// specs/Commands.antt. Refusals: none.
+ghost use mathlib.Core.Path.{_≡_};
+ghost use Rattle.terminal.specs.Commands.{isValidRecord, isOwn, isExempt, maskOf, isHeldIllegal, isLegal, awaitedOf};
+use crate::states::Setup;
+use records::WordRecord;
+use words::COMMAND_SYNC;
+use words::CommandWord;
+
+// Says whether the record's word is valid.
+pub(crate) fn is_valid_record(heard: WordRecord) -> bool
+    ensures answer { λ r. ⌜ r ≡ isValidRecord heard ⌝ }
+{
+    words::is_valid(heard.sync, heard.faults, heard.word, heard.parity)
+}
+
+// Says whether the record is an own command.
+pub(crate) fn is_own(own: u16, heard: WordRecord) -> bool
+    ensures answer { λ r. ⌜ r ≡ isOwn own heard ⌝ }
+{
+    let command = CommandWord(heard.word);
+    is_valid_record(heard)
+        & (heard.sync == COMMAND_SYNC)
+        & ((command.address() == own) | command.is_broadcast())
+}
+
+// Says whether the command leaves the stored status as it is: transmit status word and transmit last command, to the own address.
+pub(crate) fn is_exempt(own: u16, command: CommandWord) -> bool
+    ensures answer { λ r. ⌜ r ≡ isExempt own (command .0) ⌝ }
+{
+    let code = command.count();
+    (command.address() == own)
+        & command.is_transmit()
+        & command.is_mode()
+        & ((code == 2) | (code == 18))
+}
+
+// Gives the mask of the command's T/R bit and subaddress.
+fn mask(setup: Setup, command: CommandWord) -> u32
+    ensures mask { λ r. ⌜ r ≡ maskOf setup (command .0) ⌝ }
+{
+    let at = command.subaddress() as usize;
+    if command.is_transmit() {
+        setup.transmit[at]
+    } else {
+        setup.receive[at]
+    }
+}
+
+// Says whether the terminal holds the mode command illegal, whatever the masks.
+fn is_held_illegal(command: CommandWord) -> bool
+    ensures answer { λ r. ⌜ r ≡ isHeldIllegal (command .0) ⌝ }
+{
+    let code = command.count();
+    (code == 20) | (code == 21) | !words::is_allowed(command)
+}
+
+// Says whether the command is legal: by one bit of its mask, and by what is illegal besides.
+pub(crate) fn is_legal(setup: Setup, command: CommandWord) -> bool
+    ensures answer { λ r. ⌜ r ≡ isLegal setup (command .0) ⌝ }
+{
+    let allowed = words::mask_allows(mask(setup, command), command.count());
+    if command.is_mode() {
+        allowed & !is_held_illegal(command)
+    } else {
+        allowed & !(command.is_transmit() & command.is_broadcast())
+    }
+}
+
+// Gives how many data words the command awaits.
+pub(crate) fn awaited(command: CommandWord) -> u16
+    ensures count { λ r. ⌜ r ≡ awaitedOf (command .0) ⌝ }
+{
+    if command.is_transmit() {
+        return 0;
+    }
+    if command.is_mode() {
+        return if command.count() < 16 { 0 } else { 1 };
+    }
+    command.words()
+}

@@ -1,0 +1,173 @@
+// Host calls, host reads and the next moment (01 The terminal). Meaning: specs/Events.antt. Refusals: none.
+ghost use mathlib.Core.Path.{_≡_};
+ghost use Rattle.terminal.specs.Settling.{isShut};
+ghost use Rattle.terminal.specs.Events.{withHost, withService, withBusy, withSubsystem, withFault, withVector, withBit, selftestCleared, restartedOf, nextMomentOf};
+use crate::states::Held;
+use crate::states::Message;
+use crate::states::Sending;
+use crate::states::Terminal;
+use crate::tables::is_shut;
+use words::CommandWord;
+use words::Moment;
+use words::StatusWord;
+use words::Ticks;
+
+// "the next moment at which time alone matters: .., or none"
+pub enum NextMoment {
+    At(Moment),
+    Never,
+}
+
+// "last word plus 206 while a data word is awaited"
+const LATE_DISTANCE: Ticks = Ticks(206);
+
+impl Terminal {
+    // Gives the terminal with the host's service request flag on or off.
+    // Tables: none. Refusals: none.
+    pub fn set_service(self, on: bool) -> Terminal
+        ensures terminal { λ r. ⌜ r ≡ withHost self (withService (self .host) on) ⌝ }
+    {
+        let mut next = self;
+        next.host.service = on;
+        next
+    }
+
+    // Gives the terminal with the host's busy flag on or off.
+    // Tables: none. Refusals: none.
+    pub fn set_busy(self, on: bool) -> Terminal
+        ensures terminal { λ r. ⌜ r ≡ withHost self (withBusy (self .host) on) ⌝ }
+    {
+        let mut next = self;
+        next.host.busy = on;
+        next
+    }
+
+    // Gives the terminal with the host's subsystem flag on or off.
+    // Tables: none. Refusals: none.
+    pub fn set_subsystem(self, on: bool) -> Terminal
+        ensures terminal { λ r. ⌜ r ≡ withHost self (withSubsystem (self .host) on) ⌝ }
+    {
+        let mut next = self;
+        next.host.subsystem = on;
+        next
+    }
+
+    // Gives the terminal with the host's terminal fault flag on or off.
+    // Tables: none. Refusals: none.
+    pub fn set_fault(self, on: bool) -> Terminal
+        ensures terminal { λ r. ⌜ r ≡ withHost self (withFault (self .host) on) ⌝ }
+    {
+        let mut next = self;
+        next.host.fault = on;
+        next
+    }
+
+    // Gives the terminal with another vector word.
+    // Tables: none. Refusals: none.
+    pub fn set_vector(self, word: u16) -> Terminal
+        ensures terminal { λ r. ⌜ r ≡ withHost self (withVector (self .host) word) ⌝ }
+    {
+        let mut next = self;
+        next.host.vector = word;
+        next
+    }
+
+    // Gives the terminal with another BIT word.
+    // Tables: none. Refusals: none.
+    pub fn set_bit(self, word: u16) -> Terminal
+        ensures terminal { λ r. ⌜ r ≡ withHost self (withBit (self .host) word) ⌝ }
+    {
+        let mut next = self;
+        next.host.bit = word;
+        next
+    }
+
+    // Gives the terminal with no self-test request.
+    // Tables: none. Refusals: none.
+    pub fn clear_selftest(self) -> Terminal
+        ensures terminal { λ r. ⌜ r ≡ selftestCleared self ⌝ }
+    {
+        let mut next = self;
+        next.held.selftest = false;
+        next
+    }
+
+    // Gives the terminal fresh, with the host's flags and words and the last event's time; a message or sending has ended.
+    // Tables: none. Refusals: none.
+    pub fn restart(self) -> Terminal
+        ensures terminal { λ r. ⌜ r ≡ restartedOf self ⌝ }
+    {
+        let held = Held::fresh(self.setup.address);
+        let message = Message::none();
+        let sending = Sending::none();
+        let mut next = self;
+        next.held = held;
+        next.message = message;
+        next.sending = sending;
+        next
+    }
+
+    // Gives the stored status.
+    // Tables: none. Refusals: none.
+    pub fn status(self) -> StatusWord
+        ensures status { λ r. ⌜ r ≡ self .held .status ⌝ }
+    {
+        self.held.status
+    }
+
+    // Gives the last command.
+    // Tables: none. Refusals: none.
+    pub fn last_command(self) -> CommandWord
+        ensures command { λ r. ⌜ r ≡ self .held .command ⌝ }
+    {
+        self.held.command
+    }
+
+    // Gives the sync word.
+    // Tables: none. Refusals: none.
+    pub fn sync_word(self) -> u16
+        ensures word { λ r. ⌜ r ≡ self .held .sync ⌝ }
+    {
+        self.held.sync
+    }
+
+    // Says whether the self-test request is set.
+    // Tables: none. Refusals: none.
+    pub fn wants_selftest(self) -> bool
+        ensures answer { λ r. ⌜ r ≡ self .held .selftest ⌝ }
+    {
+        self.held.selftest
+    }
+
+    // Says whether the terminal flag is inhibited.
+    // Tables: none. Refusals: none.
+    pub fn is_inhibited(self) -> bool
+        ensures answer { λ r. ⌜ r ≡ self .held .inhibit ⌝ }
+    {
+        self.held.inhibit
+    }
+
+    // Says whether the transmitter of the bus is shut down.
+    // Tables: none. Refusals: none.
+    pub fn is_shut_down(self, bus: u8) -> bool
+        ensures answer { λ r. ⌜ r ≡ isShut (self .held) bus ⌝ }
+    {
+        let shut = self.held.shut;
+        is_shut(shut, bus)
+    }
+
+    // Gives the next moment at which time alone matters. It may differ after every event that is not refused and after a restart.
+    // Tables: none. Refusals: none.
+    pub fn next_moment(self) -> NextMoment
+        ensures next { λ r. ⌜ r ≡ nextMomentOf (self .message) ⌝ }
+    {
+        let message = self.message;
+        if message.is_whole() {
+            return NextMoment::At(message.last.plus(Self::DUE_DISTANCE));
+        }
+        if message.awaits_data() {
+            return NextMoment::At(message.last.plus(LATE_DISTANCE));
+        }
+        NextMoment::Never
+    }
+}

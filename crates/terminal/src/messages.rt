@@ -1,0 +1,125 @@
+// Tests of the message under way, of the sending, and of a record as the next word (01 The terminal). Meaning: specs/Messages.antt.
+// Refusals: none.
+ghost use mathlib.Core.Path.{_≡_};
+ghost use Rattle.terminal.specs.Messages.{isUnder, isOn, isCounting, awaitsData, isWhole, isDue, isLate, isSending, isNextData, isSecond, isStatusFrom};
+use crate::commands::awaited;
+use crate::commands::is_valid_record;
+use crate::states::Message;
+use crate::states::Phase;
+use crate::states::Sending;
+use records::WordRecord;
+use words::COMMAND_SYNC;
+use words::CommandWord;
+use words::DATA_SYNC;
+use words::Moment;
+use words::Ticks;
+
+impl Phase {
+    // Says whether a message is under way.
+    fn is_under(self) -> bool
+        ensures answer { λ r. ⌜ r ≡ isUnder self ⌝ }
+    {
+        match self {
+            Phase::Idle => false,
+            Phase::First => true,
+            Phase::Pledged(_) => true,
+            Phase::Data => true,
+        }
+    }
+
+    // Says whether data words are counted: not while a status between terminals is awaited.
+    fn is_counting(self) -> bool
+        ensures answer { λ r. ⌜ r ≡ isCounting self ⌝ }
+    {
+        match self {
+            Phase::Idle => false,
+            Phase::First => true,
+            Phase::Pledged(_) => false,
+            Phase::Data => true,
+        }
+    }
+}
+
+impl Message {
+    // Says whether a message is under way on that bus.
+    pub(crate) fn is_on(self, bus: u8) -> bool
+        ensures answer { λ r. ⌜ r ≡ isOn self bus ⌝ }
+    {
+        let phase = self.phase;
+        phase.is_under() & (self.bus == bus)
+    }
+
+    // Says whether a data word is awaited.
+    pub(crate) fn awaits_data(self) -> bool
+        ensures answer { λ r. ⌜ r ≡ awaitsData self ⌝ }
+    {
+        let phase = self.phase;
+        phase.is_counting() & (self.got < awaited(self.command))
+    }
+
+    // Says whether all words have come.
+    pub(crate) fn is_whole(self) -> bool
+        ensures answer { λ r. ⌜ r ≡ isWhole self ⌝ }
+    {
+        let phase = self.phase;
+        phase.is_counting() & (awaited(self.command) <= self.got)
+    }
+
+    // Says whether the due time is at most that.
+    pub(crate) fn is_due(self, time: Moment) -> bool
+        ensures answer { λ r. ⌜ r ≡ isDue self (time .0) ⌝ }
+    {
+        let past = time.since(self.last);
+        self.is_whole() & (Ticks::DUE_DISTANCE.0 <= past.0)
+    }
+
+    // Says whether a data word is awaited for too long.
+    pub(crate) fn is_late(self, time: Moment) -> bool
+        ensures answer { λ r. ⌜ r ≡ isLate self (time .0) ⌝ }
+    {
+        let past = time.since(self.last);
+        self.awaits_data() & (Ticks::SPACING_MOST.0 < past.0)
+    }
+
+    // Says whether the record is the next data word: valid, data sync, spaced.
+    pub(crate) fn is_next_data(self, heard: WordRecord) -> bool
+        ensures answer { λ r. ⌜ r ≡ isNextData self heard ⌝ }
+    {
+        is_valid_record(heard) & (heard.sync == DATA_SYNC) & words::is_spaced(self.last, heard.time)
+    }
+
+    // Says whether the record is the second command word of a message between terminals.
+    pub(crate) fn is_second(self, own: u16, heard: WordRecord) -> bool
+        ensures answer { λ r. ⌜ r ≡ isSecond own self heard ⌝ }
+    {
+        let command = CommandWord(heard.word);
+        is_valid_record(heard)
+            & (heard.sync == COMMAND_SYNC)
+            & words::is_spaced(self.last, heard.time)
+            & command.is_transmit()
+            & !((command.address() == own) | command.is_broadcast())
+            & !command.is_mode()
+            & (command.count() == self.command.count())
+    }
+}
+
+// Says whether the record is a valid status from that address.
+pub(crate) fn is_status_from(address: u16, heard: WordRecord) -> bool
+    ensures answer { λ r. ⌜ r ≡ isStatusFrom address heard ⌝ }
+{
+    let command = CommandWord(heard.word);
+    is_valid_record(heard) & (heard.sync == COMMAND_SYNC) & (command.address() == address)
+}
+
+impl Sending {
+    // Says whether the terminal is sending on that bus at that time.
+    pub(crate) fn is_sending(self, bus: u8, time: Moment) -> bool
+        ensures answer { λ r. ⌜ r ≡ isSending self bus (time .0) ⌝ }
+    {
+        let past = time.since(self.from);
+        self.on
+            & (self.bus == bus)
+            & (self.from.0 <= time.0)
+            & (past.0 < Ticks::WORD.0 * (self.words as u64))
+    }
+}

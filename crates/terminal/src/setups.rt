@@ -1,0 +1,70 @@
+// Set-up (01 The terminal: "Set up with an own address 0 to 30 and two tables of 32 masks"). Meaning: specs/Events.antt.
+// Refusals: 1, 2.
+ghost use mathlib.Core.Path.{_≡_};
+ghost use lib.ListN.{length};
+ghost use Rattle.terminal.specs.Events.{setUpRefusal, nothingLegal, setUpOf};
+use crate::states::Setup;
+use crate::states::Terminal;
+use words::Refusal;
+
+// The refusal's number or 0, and the terminal: after a refusal that of address 0 with nothing legal.
+pub struct SetUp {
+    pub refusal: Refusal,
+    pub terminal: Terminal,
+}
+
+// Gives the refusal of a set-up that lends mask tables of these lengths, or none.
+fn set_up_refusal(address: u16, receive: usize, transmit: usize) -> Refusal
+    ensures refusal { λ r. ⌜ r .0 ≡ setUpRefusal address receive transmit ⌝ }
+{
+    if (receive == 32) & (transmit == 32) {
+        if address <= 30 {
+            return Refusal::NONE;
+        }
+        return Refusal::OWN_ADDRESS;
+    }
+    Refusal::TABLE_SIZE
+}
+
+// Gives a copy of a table of masks.
+fn masks(table: &[u32]) -> [u32; 32]
+    requires { ⌜ length (now table) ≡ 32 ⌝ }
+    ensures masks { λ r. ⌜ r ≡ now (table .entry) ⌝ }
+{
+    let mut copy = [0u32; 32];
+    let mut i = 0;
+    while i < 32 {
+        copy[i] = table[i];
+        i += 1;
+    }
+    copy
+}
+
+// Gives the fresh terminal of the address and the masks.
+// Tables: both are only read. Refusals: 1, a table is not 32 masks; 2, own address above 30.
+pub fn set_up(address: u16, receive: &[u32], transmit: &[u32]) -> SetUp
+    ensures setup { λ r. ⌜ r ≡ setUpOf address (now (receive .entry)) (now (transmit .entry)) ⌝ }
+{
+    let refusal = set_up_refusal(address, receive.len(), transmit.len());
+    if refusal.0 == 0 {
+        let received = masks(receive);
+        let transmitted = masks(transmit);
+        let setup = Setup {
+            address,
+            receive: received,
+            transmit: transmitted,
+        };
+        let terminal = Terminal::fresh(setup);
+        return SetUp {
+            refusal: Refusal::NONE,
+            terminal,
+        };
+    }
+    let setup = Setup {
+        address: 0,
+        receive: [0; 32],
+        transmit: [0; 32],
+    };
+    let terminal = Terminal::fresh(setup);
+    SetUp { refusal, terminal }
+}
