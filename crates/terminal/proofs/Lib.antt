@@ -1,4 +1,5 @@
 pub mod Accepted
+pub mod Bench
 pub mod Copies
 pub mod Counts
 pub mod Phases

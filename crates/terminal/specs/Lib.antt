@@ -6,3 +6,5 @@ pub mod Settling
 pub mod Effects
 pub mod Rules
 pub mod Events
+pub mod Cards
+pub mod Theorems

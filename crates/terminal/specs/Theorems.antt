@@ -1,0 +1,7 @@
+-- What holds of the terminal beyond each function's own promise. Each is proved in proofs/ under the name at its side. Assumes nothing.
+use lib.Dec.{T}
+use Rattle.terminal.specs.Cards.{cards, allHold}
+
+-- Every bench card of document 01, starred or not, holds: cards-hold
+abbrev pub CardsHold : Type 0
+CardsHold = T (allHold cards)
