@@ -17,7 +17,8 @@ isValidRecord r = isValid (r .sync) (r .faults) (r .word) (r .parity)
 unfoldable pub isOwn : ℕ → WordRecord → Bool
 isOwn own r = isValidRecord r && eqb (r .sync) commandSync && (eqb (addressOf (r .word)) own || isBroadcast (r .word))
 
--- "Transmit status word and transmit last command (to the own address)": the two exempt commands.
+-- "Transmit status word and transmit last command (to the own address)": the two exempt commands, whatever a mask says (DECISIONS 2).
+-- (003 7.3.3.5.4, 002 2.6.5)
 unfoldable pub isExempt : ℕ → ℕ → Bool
 isExempt own word = eqb (addressOf word) own && isTransmit word && isMode word && (eqb (codeOf word) 2 || eqb (codeOf word) 18)
 
@@ -26,13 +27,17 @@ isExempt own word = eqb (addressOf word) own && isTransmit word && isMode word &
 unfoldable pub maskOf : Setup → ℕ → ℕ
 maskOf setup word = cond (isTransmit word) (getD (setup .transmit) (subaddressOf word) 0) (getD (setup .receive) (subaddressOf word) 0)
 
--- "The terminal holds 20 and 21 and everything reserved illegal." (01 Mode codes)
+-- "The terminal holds 20 and 21 and everything reserved illegal." (01 Mode codes); "a mode command that the code table does not allow" is
+-- illegal too, as one to 31 that may not be broadcast.
 unfoldable pub isHeldIllegal : ℕ → Bool
 isHeldIllegal word = eqb (codeOf word) 20 || eqb (codeOf word) 21 || not (isAllowed word)
 
--- "A broadcast transmit that is no mode command is illegal, as is a mode command that the code table does not allow."
+-- By the mask, mode commands too (DECISIONS 1), and: "A broadcast transmit that is no mode command is illegal, as is a mode command that the
+-- code table does not allow." (003 7.4.3.4, 002 3.6)
 unfoldable pub isLegal : Setup → ℕ → Bool
-isLegal setup word = maskAllows (maskOf setup word) (countOf word) && not (cond (isMode word) (isHeldIllegal word) (isTransmit word && isBroadcast word))
+isLegal setup word =
+    maskAllows (maskOf setup word) (countOf word)
+    && not (cond (isMode word) (isHeldIllegal word) (isTransmit word && isBroadcast word))
 
 -- "Awaited data words: the count for receive, one for a T/R 0 mode code of 16 or more, else none."
 unfoldable pub awaitedOf : ℕ → ℕ

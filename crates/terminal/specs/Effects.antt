@@ -36,7 +36,8 @@ withShut h bus on =
     record { status = h .status; command = h .command; sync = h .sync; selftest = h .selftest; inhibit = h .inhibit; shut = set (h .shut) bus on }
 
 -- "4 shuts the other bus, 5 opens it; 6 inhibits the terminal flag, 7 allows it again; 1 sets the sync word to 0, 17 to its data; 3 sets the
--- self-test request; 8 and restart give the fresh state, host flags and words kept."
+-- self-test request; 8 and restart give the fresh state, host flags and words kept." Departs from 002 2.4.7.7 and 2.4.7.8, which inhibit and
+-- allow before the answer. (003 7.3.3.5.1.7)
 unfoldable pub effectOf : ℕ → Held → ℕ → ℕ → ℕ → Held
 effectOf own h code bus word =
     cond (eqb code 1) (withSync h 0)
@@ -48,7 +49,8 @@ effectOf own h code bus word =
     (cond (eqb code 8) (freshHeld own)
     (cond (eqb code 17) (withSync h word) h)))))))
 
--- What is held once a message is settled with that status.
+-- What is held once a message is settled with that status: "effects still happen" where the answer is withheld; only a legal mode command has
+-- its effect (DECISIONS 3).
 unfoldable pub heldAfter : State → ℕ → Held
 heldAfter s status =
     cond (isLegal (s .setup) (s .message .command .0) && isMode (s .message .command .0))

@@ -1,13 +1,12 @@
 -- Document 01, "The terminal": set-up, an event whole with its refusals, host calls, next moment. Assumes nothing.
-use Prim.Native.Nat.{ℕ, _+_}
-use mathlib.Core.Bool.{Bool, true, false, cond, _&&_}
-use mathlib.Core.List.{List, [], _∷_}
-use lib.Dec.{eqb, ltb, leb}
+use Prim.Native.Nat.{ℕ}
+use mathlib.Core.Bool.{Bool, false, cond, _&&_}
+use mathlib.Core.List.{List}
+use lib.Dec.{eqb, leb}
 use lib.ListN.{length, replicate}
 use Rattle.words.specs.Words.{onClock, plusOf, dueDistance}
 use Rattle.words.specs.Refusals.{notRefused, refusedTableSize, refusedOwnAddress, refusedOutOfRange, refusedOutOfOrder}
 use Rattle.records.specs.Records.{inRange}
-use Rattle.records.specs.declared.forms.WordRecord.{WordRecord}
 use Rattle.terminal.specs.States.{noMessage, noSending, freshHeld, freshOf}
 use Rattle.terminal.specs.Messages.{awaitsData, isWhole}
 use Rattle.terminal.specs.Settling.{noAnswer}
@@ -26,12 +25,13 @@ use Rattle.terminal.specs.declared.setups.SetUp.{SetUp}
 
 -- ---- set-up
 
--- "Set-up: 1, 2.": "a lent mask table not 32 masks"; "own address above 30"
+-- "Set up with an own address 0 to 30 and two tables of 32 masks". "Set-up: 1, 2.": "a lent mask table not 32 masks"; "own address above 30".
+-- Of the tables only their lengths matter.
 unfoldable pub setUpRefusal : ℕ → ℕ → ℕ → ℕ
 setUpRefusal address receive transmit =
     cond (eqb receive 32 && eqb transmit 32) (cond (leb address 30) notRefused refusedOwnAddress) refusedTableSize
 
--- The terminal that a refused set-up gives: address 0, nothing legal (house).
+-- The terminal that a refused set-up gives: address 0, nothing legal (house, DECISIONS 18).
 abbrev pub nothingLegal : Setup
 nothingLegal = record { address = 0; receive = replicate 32 0; transmit = replicate 32 0 }
 
@@ -52,7 +52,7 @@ abbrev pub isInRange : Event → Bool
 isInRange (Mark t) = onClock (t .0)
 isInRange (Word r) = inRange r
 
--- "Event: 1, 5, 6.": "a lent word table is not 1,024 words"; "a field or a time out of range"; "event earlier than the last". Of the tables
+-- "Every event lends a receive and a transmit table of exactly 1,024 words". "Event: 1, 5, 6.": "a lent word table is not 1,024 words"; "a field or a time out of range"; "event earlier than the last". Of the tables
 -- only their lengths matter.
 unfoldable pub eventRefusal : State → Event → ℕ → ℕ → ℕ
 eventRefusal s e receive transmit =
@@ -60,11 +60,12 @@ eventRefusal s e receive transmit =
     (cond (isInRange e) (cond (leb (s .time .0) (timeOf e)) notRefused refusedOutOfOrder) refusedOutOfRange)
     refusedTableSize
 
--- The state at the event's time, rules 1 and 2 done; then the record.
+-- The state at a time.
 abbrev pub atTime : State → ℕ → State
 atTime s t =
     record { setup = s .setup; host = s .host; held = s .held; message = s .message; sending = s .sending; time = record { 0 = t } }
 
+-- The state at the event's time, rules 1 and 2 done; then its record.
 unfoldable pub passedOf : State → ℕ → List ℕ → State
 passedOf s t transmit = atTime (rule2 (rule1 s t transmit) t) t
 
@@ -76,6 +77,7 @@ abbrev pub cutOf : State → Event → Bool
 cutOf s (Mark t) = false
 cutOf s (Word r) = cutsSending s r
 
+-- An event may carry an answer and cut its sending (DECISIONS 4).
 unfoldable pub happensOf : State → Event → List ℕ → Happened
 happensOf s e transmit = record {
   refusal = record { 0 = notRefused };
@@ -99,7 +101,7 @@ eventReceive s e receive transmit =
 
 -- ---- host calls
 
--- "Host calls set the flags (service request, busy, subsystem, terminal fault), vector and BIT words, clear the self-test request, or restart."
+-- "No other call is refused." "Host calls set the flags (service request, busy, subsystem, terminal fault), vector and BIT words, clear the self-test request, or restart."
 abbrev pub withHost : State → Host → State
 withHost s host =
     record { setup = s .setup; host = host; held = s .held; message = s .message; sending = s .sending; time = s .time }
@@ -141,6 +143,7 @@ restartedOf s =
 -- ---- next moment
 
 -- "The host may ask for the next moment at which time alone matters: the due time, or last word plus 206 while a data word is awaited, or none."
+-- It may lie past the clock (DECISIONS 5); a sum past 64 bits stays at their last number (DECISIONS 9).
 abbrev pub lateDistance : ℕ
 lateDistance = 206
 

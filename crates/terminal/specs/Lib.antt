@@ -1,4 +1,4 @@
--- The definitions of the crate, in the order of document 01, then what is proved of them.
+-- The state, what its rules ask of commands, messages and settling, the rules, then whole calls, cards and what is proved.
 pub mod States
 pub mod Commands
 pub mod Messages

@@ -1,6 +1,6 @@
 -- Document 01, "The terminal": the message under way and the sending. Assumes nothing.
 use Prim.Native.Nat.{ℕ, _+_, _*_}
-use mathlib.Core.Bool.{Bool, true, false, not, cond, _&&_, _||_}
+use mathlib.Core.Bool.{Bool, true, false, not, _&&_, _||_}
 use lib.Dec.{eqb, ltb, leb}
 use Rattle.words.specs.Words.{dueDistance, spacingMost, wordTicks, addressOf, countOf, isTransmit, isMode, isBroadcast, isSpaced, commandSync, dataSync}
 use Rattle.records.specs.declared.forms.WordRecord.{WordRecord}
@@ -10,27 +10,29 @@ use Rattle.terminal.specs.declared.states.Phase.the-variants.{Idle, Firs
 use Rattle.terminal.specs.declared.states.Message.{Message}
 use Rattle.terminal.specs.declared.states.Sending.{Sending}
 
--- A message is under way on that bus.
-abbrev pub isUnder : Phase → Bool
-isUnder Idle = false
-isUnder First = true
-isUnder (Pledged address) = true
-isUnder Data = true
+-- A message is under way; it is, on that bus.
+abbrev pub isUnderWay : Phase → Bool
+isUnderWay Idle = false
+isUnderWay First = true
+isUnderWay (Pledged address) = true
+isUnderWay Data = true
 
 unfoldable pub isOn : Message → ℕ → Bool
-isOn m bus = isUnder (m .phase) && eqb (m .bus) bus
+isOn m bus = isUnderWay (m .phase) && eqb (m .bus) bus
 
--- Its words are counted: not while a status between terminals is awaited.
+-- What comes next is a data word, or nothing: not while a status between terminals is "awaited for any length of time (rule 2 does not apply
+-- meanwhile)".
 abbrev pub isCounting : Phase → Bool
 isCounting Idle = false
 isCounting First = true
 isCounting (Pledged address) = false
 isCounting Data = true
 
--- A data word is awaited; all words have come.
+-- "still awaits a data word"
 unfoldable pub awaitsData : Message → Bool
 awaitsData m = isCounting (m .phase) && ltb (m .got) (awaitedOf (m .command .0))
 
+-- "all the words it awaits have come"
 unfoldable pub isWhole : Message → Bool
 isWhole m = isCounting (m .phase) && leb (awaitedOf (m .command .0)) (m .got)
 
@@ -51,7 +53,7 @@ unfoldable pub isNextData : Message → WordRecord → Bool
 isNextData m r = isValidRecord r && eqb (r .sync) dataSync && isSpaced (m .last .0) (r .time .0)
 
 -- "directly after a receive command that is no mode command, within 195 to 205, a valid command word may come that transmits, to another
--- address than ours and 31, no mode command, equal count field."
+-- address than ours and 31, no mode command, equal count field." (003 7.3.3.6.3, 002 2.7.1)
 unfoldable pub isSecond : ℕ → Message → WordRecord → Bool
 isSecond own m r =
     isValidRecord r
@@ -62,6 +64,6 @@ isSecond own m r =
     && not (isMode (r .word))
     && eqb (countOf (r .word)) (countOf (m .command .0))
 
--- "Then a valid status from that address is awaited"
+-- "Then a valid status from that address is awaited": no other bit and no distance is judged (DECISIONS 6). (003 A.3.9)
 unfoldable pub isStatusFrom : ℕ → WordRecord → Bool
 isStatusFrom address r = isValidRecord r && eqb (r .sync) commandSync && eqb (addressOf (r .word)) address

@@ -1,6 +1,6 @@
 -- Document 01, "The terminal": "At an event of time t, in this order", rules 1 to 6. Assumes nothing.
 use Prim.Native.Nat.{ℕ, _+_}
-use mathlib.Core.Bool.{Bool, true, false, not, cond, _&&_}
+use mathlib.Core.Bool.{Bool, cond, _&&_}
 use mathlib.Core.List.{List}
 use lib.Dec.{eqb}
 use lib.ListN.{set, replicate}
@@ -41,6 +41,7 @@ rule1Answer s t transmit = cond (isDue (s .message) t) (answerOf s (statusNow s)
 unfoldable pub rule1Receive : State → ℕ → List ℕ → List ℕ
 rule1Receive s t receive = cond (isDue (s .message) t) (storedOf s receive) receive
 
+-- "8 does not end the sending of its own answer."
 unfoldable pub settledOf : State → List ℕ → State
 settledOf s transmit =
     record {
@@ -67,10 +68,16 @@ faultyOf s =
 unfoldable pub rule2 : State → ℕ → State
 rule2 s t = cond (isLate (s .message) t) (faultyOf s) s
 
+-- ---- "3. A record on a bus on which the terminal is sending (due time D up to, not including, D + 200 times the words sent) is ignored."
+
+abbrev pub rule3 : State → WordRecord → Bool
+rule3 s r = isSending (s .sending) (r .bus) (r .time .0)
+
 -- ---- "4. An own command replaces any message under way, and cuts a sending on the other bus; the result says so."
 
 -- "It becomes the last command unless it is transmit last command to the own address. The stored status becomes the own address, plus
--- broadcast received if 31. Transmit status word and transmit last command (to the own address) leave the stored status as it is."
+-- broadcast received if 31. Transmit status word and transmit last command (to the own address) leave the stored status as it is." And "the
+-- valid command word sets the broadcast bit; 002 waits for the whole valid message." (01, Sources; 003 7.3.3.5.3.7). Departs from 002 2.7.2.
 unfoldable pub notedStatus : ℕ → Held → ℕ → Held
 notedStatus own h word =
     cond (isExempt own word) h
@@ -87,6 +94,7 @@ unfoldable pub begunOf : WordRecord → Message
 begunOf r =
     record { phase = firstPhase (r .word); bus = r .bus; command = record { 0 = r .word }; last = r .time; got = 0; words = replicate 32 0 }
 
+-- "Replacement by itself marks no fault."
 unfoldable pub rule4 : State → WordRecord → State
 rule4 s r =
     record {
@@ -99,7 +107,7 @@ rule4 s r =
     }
 
 unfoldable pub cutsSending : State → WordRecord → Bool
-cutsSending s r = isOwn (s .setup .address) r && not (isSending (s .sending) (r .bus) (r .time .0)) && isSending (s .sending) (otherBus (r .bus)) (r .time .0)
+cutsSending s r = isOwn (s .setup .address) r && isSending (s .sending) (otherBus (r .bus)) (r .time .0)
 
 -- ---- "5. Any other record on the bus of a message under way must be its next word: .. Otherwise the message is faulty, also when all its words
 -- had come."
@@ -116,21 +124,27 @@ movedOf m phase r = record { phase = phase; bus = m .bus; command = m .command; 
 unfoldable pub nextData : State → WordRecord → State
 nextData s r = cond (awaitsData (s .message) && isNextData (s .message) r) (withMessage s (s .held) (stagedOf (s .message) r)) (faultyOf s)
 
--- "(between terminals also the words named below)"
+-- "(between terminals also the words named below)": a second command word, "Then a valid status from that address .., then the data words.
+-- Any other record there is a fault."
 unfoldable pub nextWord : Phase → State → WordRecord → State
 nextWord Idle s r = s
 nextWord Data s r = nextData s r
 nextWord First s r =
-    cond (isSecond (s .setup .address) (s .message) r) (withMessage s (s .held) (movedOf (s .message) (Pledged (addressOf (r .word))) r)) (nextData s r)
+    cond (isSecond (s .setup .address) (s .message) r)
+    (withMessage s (s .held) (movedOf (s .message) (Pledged (addressOf (r .word))) r))
+    (nextData s r)
 nextWord (Pledged address) s r = cond (isStatusFrom address r) (withMessage s (s .held) (movedOf (s .message) Data r)) (faultyOf s)
 
 unfoldable pub rule5 : State → WordRecord → State
 rule5 s r = nextWord (s .message .phase) s r
 
+-- ---- "6. Other records do nothing."
+
+abbrev pub rule6 : State → State
+rule6 s = s
+
 -- ---- the order of 3 to 6
 
--- "3. A record on a bus on which the terminal is sending .. is ignored." "6. Other records do nothing."
 unfoldable pub rules3to6 : State → WordRecord → State
 rules3to6 s r =
-    cond (isSending (s .sending) (r .bus) (r .time .0)) s
-    (cond (isOwn (s .setup .address) r) (rule4 s r) (cond (isOn (s .message) (r .bus)) (rule5 s r) s))
+    cond (rule3 s r) s (cond (isOwn (s .setup .address) r) (rule4 s r) (cond (isOn (s .message) (r .bus)) (rule5 s r) (rule6 s)))

@@ -1,4 +1,5 @@
--- What holds of the terminal beyond each function's own promise. Each is proved in proofs/ under the name at its side. Assumes nothing.
+-- What holds of the terminal beyond each function's own promise, proved in proofs/ under the name at its side. What holds after any past
+-- (demand 3) is to come. Assumes nothing.
 use lib.Dec.{T}
 use Rattle.terminal.specs.Cards.{cards, allHold}
 

@@ -3,6 +3,7 @@
 ghost use mathlib.Core.Path.{_≡_};
 ghost use Prim.Native.Nat.{_+_, _^_, _<_};
 ghost use lib.ListN.{length};
+ghost use Rattle.words.specs.Words.{dueDistance};
 ghost use Rattle.terminal.specs.Settling.{withIf, settledStatus, noWords, oneWord, tableWords, modeWords, legalReply, replyOf, storesData, isWithheld, noAnswer, answerOf, sendingOf};
 use crate::commands::is_exempt;
 use crate::commands::is_legal;
@@ -167,7 +168,7 @@ impl Terminal {
 
     // Gives the answer with that status and these words, or none where it is withheld.
     pub(crate) fn answer(self, status: StatusWord, reply: Reply) -> Answer
-        requires { ⌜ self .message .last .0 + 260 < 2 ^ 64 ⌝ }
+        requires { ⌜ self .message .last .0 + dueDistance < 2 ^ 64 ⌝ }
         ensures answer { λ r. ⌜ r ≡ answerOf self (status .0) reply ⌝ }
     {
         if self.is_withheld() {
@@ -188,7 +189,7 @@ impl Terminal {
 
     // Gives the sending of that answer.
     pub(crate) fn sending(self, count: u16) -> Sending
-        requires { ⌜ self .message .last .0 + 260 < 2 ^ 64 ⌝ }
+        requires { ⌜ self .message .last .0 + dueDistance < 2 ^ 64 ⌝ }
         requires { ⌜ count < 65535 ⌝ }
         ensures sending { λ r. ⌜ r ≡ sendingOf self count ⌝ }
     {

@@ -21,6 +21,7 @@ pub(crate) fn other_bus(bus: u8) -> u8
 }
 
 impl Held {
+    // What is held with another stored status.
     pub(crate) fn with_status(self, status: StatusWord) -> Held
         ensures held { λ r. ⌜ r ≡ withStatus self (status .0) ⌝ }
     {
@@ -29,6 +30,7 @@ impl Held {
         next
     }
 
+    // With another last command.
     fn with_command(self, command: CommandWord) -> Held
         ensures held { λ r. ⌜ r ≡ withCommand self (command .0) ⌝ }
     {
@@ -37,6 +39,7 @@ impl Held {
         next
     }
 
+    // With another sync word.
     fn with_sync(self, word: u16) -> Held
         ensures held { λ r. ⌜ r ≡ withSync self word ⌝ }
     {
@@ -45,7 +48,8 @@ impl Held {
         next
     }
 
-    pub(crate) fn with_selftest(self, on: bool) -> Held
+    // With the self-test request set or cleared.
+    fn with_selftest(self, on: bool) -> Held
         ensures held { λ r. ⌜ r ≡ withSelftest self on ⌝ }
     {
         let mut next = self;
@@ -53,6 +57,7 @@ impl Held {
         next
     }
 
+    // With the terminal flag inhibited or allowed.
     fn with_inhibit(self, on: bool) -> Held
         ensures held { λ r. ⌜ r ≡ withInhibit self on ⌝ }
     {
@@ -61,6 +66,7 @@ impl Held {
         next
     }
 
+    // With the transmitter of a bus shut down or opened.
     fn with_shut(self, bus: u8, on: bool) -> Held
         ensures held { λ r. ⌜ r ≡ withShut self bus on ⌝ }
     {

@@ -147,7 +147,7 @@ impl Terminal {
         self.held.inhibit
     }
 
-    // Says whether the transmitter of the bus is shut down.
+    // Says whether the transmitter of the bus is shut down; a bus past the two has none.
     // Tables: none. Refusals: none.
     pub fn is_shut_down(self, bus: u8) -> bool
         ensures answer { λ r. ⌜ r ≡ isShut (self .held) bus ⌝ }

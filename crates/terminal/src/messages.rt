@@ -1,23 +1,25 @@
 // Tests of the message under way, of the sending, and of a record as the next word (01 The terminal). Meaning: specs/Messages.antt.
 // Refusals: none.
 ghost use mathlib.Core.Path.{_≡_};
-ghost use Rattle.terminal.specs.Messages.{isUnder, isOn, isCounting, awaitsData, isWhole, isDue, isLate, isSending, isNextData, isSecond, isStatusFrom};
+ghost use Rattle.terminal.specs.Messages.{isUnderWay, isOn, isCounting, awaitsData, isWhole, isDue, isLate, isSending, isNextData, isSecond, isStatusFrom};
 use crate::commands::awaited;
 use crate::commands::is_valid_record;
 use crate::states::Message;
 use crate::states::Phase;
 use crate::states::Sending;
+use crate::states::Terminal;
 use records::WordRecord;
 use words::COMMAND_SYNC;
 use words::CommandWord;
 use words::DATA_SYNC;
 use words::Moment;
+use words::StatusWord;
 use words::Ticks;
 
 impl Phase {
     // Says whether a message is under way.
-    fn is_under(self) -> bool
-        ensures answer { λ r. ⌜ r ≡ isUnder self ⌝ }
+    fn is_under_way(self) -> bool
+        ensures answer { λ r. ⌜ r ≡ isUnderWay self ⌝ }
     {
         match self {
             Phase::Idle => false,
@@ -46,7 +48,7 @@ impl Message {
         ensures answer { λ r. ⌜ r ≡ isOn self bus ⌝ }
     {
         let phase = self.phase;
-        phase.is_under() & (self.bus == bus)
+        phase.is_under_way() & (self.bus == bus)
     }
 
     // Says whether a data word is awaited.
@@ -70,7 +72,7 @@ impl Message {
         ensures answer { λ r. ⌜ r ≡ isDue self (time .0) ⌝ }
     {
         let past = time.since(self.last);
-        self.is_whole() & (Ticks::DUE_DISTANCE.0 <= past.0)
+        self.is_whole() & (Terminal::DUE_DISTANCE.0 <= past.0)
     }
 
     // Says whether a data word is awaited for too long.
@@ -78,7 +80,7 @@ impl Message {
         ensures answer { λ r. ⌜ r ≡ isLate self (time .0) ⌝ }
     {
         let past = time.since(self.last);
-        self.awaits_data() & (Ticks::SPACING_MOST.0 < past.0)
+        self.awaits_data() & (Terminal::SPACING_MOST.0 < past.0)
     }
 
     // Says whether the record is the next data word: valid, data sync, spaced.
@@ -107,8 +109,8 @@ impl Message {
 pub(crate) fn is_status_from(address: u16, heard: WordRecord) -> bool
     ensures answer { λ r. ⌜ r ≡ isStatusFrom address heard ⌝ }
 {
-    let command = CommandWord(heard.word);
-    is_valid_record(heard) & (heard.sync == COMMAND_SYNC) & (command.address() == address)
+    let status = StatusWord(heard.word);
+    is_valid_record(heard) & (heard.sync == COMMAND_SYNC) & (status.address() == address)
 }
 
 impl Sending {

@@ -3,6 +3,7 @@
 ghost use mathlib.Core.Path.{_≡_};
 ghost use Prim.Native.Nat.{_+_, _^_, _<_};
 ghost use lib.ListN.{length};
+ghost use Rattle.words.specs.Words.{dueDistance};
 ghost use Rattle.terminal.specs.Settling.{answerOf, storedOf};
 ghost use Rattle.terminal.specs.Rules.{withMessage, statusNow, replyNow, rule1Answer, rule1Receive, settledOf, rule1, faultyOf, rule2, firstPhase, begunOf, rule4, cutsSending, stagedOf, movedOf, nextData, nextWord, rule5, rules3to6};
 use crate::answers::Answer;
@@ -123,7 +124,7 @@ impl Terminal {
 
     // The message that is due is settled: its answer, its data words stored, the terminal after it.
     fn settle(self, receive: &mut [u16], transmit: &[u16]) -> Settled
-        requires { ⌜ (length (now receive) ≡ 1024) × (length (now transmit) ≡ 1024) × (self .message .last .0 + 260 < 2 ^ 64) ⌝ }
+        requires { ⌜ (length (now receive) ≡ 1024) × (length (now transmit) ≡ 1024) × (self .message .last .0 + dueDistance < 2 ^ 64) ⌝ }
         ensures answer { λ r. ⌜ r .answer ≡ answerOf self (statusNow self) (replyNow self (now (transmit .entry))) ⌝ }
         ensures terminal { λ r. ⌜ r .terminal ≡ settledOf self (now (transmit .entry)) ⌝ }
         ensures receive { λ _. ⌜ now (receive .exit) ≡ storedOf self (now (receive .entry)) ⌝ }
@@ -207,9 +208,7 @@ impl Terminal {
     {
         let own = self.setup.address;
         let sending = self.sending;
-        is_own(own, heard)
-            & !sending.is_sending(heard.bus, heard.time)
-            & sending.is_sending(other_bus(heard.bus), heard.time)
+        is_own(own, heard) & sending.is_sending(other_bus(heard.bus), heard.time)
     }
 
     // The record must be the next data word.

@@ -40,7 +40,8 @@ fn masks(table: &[u32]) -> [u32; 32]
     copy
 }
 
-// Gives the fresh terminal of the address and the masks.
+// Gives no refusal and the fresh terminal of the address and the masks, or gives the number of the refusal and the fresh terminal of
+// address 0 with nothing legal.
 // Tables: both are only read. Refusals: 1, a table is not 32 masks; 2, own address above 30.
 pub fn set_up(address: u16, receive: &[u32], transmit: &[u32]) -> SetUp
     ensures setup { λ r. ⌜ r ≡ setUpOf address (now (receive .entry)) (now (transmit .entry)) ⌝ }

@@ -38,7 +38,7 @@ pub struct Held {
 pub enum Phase {
     // no message
     Idle,
-    // data words, or nothing more; a receive command has just come, and a second command word may follow
+    // data words; a receive command has just come, and a second command word may follow
     First,
     // a second command word has come, and a status from its address is awaited
     Pledged(u16),
@@ -127,7 +127,7 @@ impl Terminal {
 
     pub const SPACING_MOST: Ticks = Ticks::SPACING_MOST;
 
-    // Gives the fresh terminal of a set-up: "host flags off, vector and BIT words 0, last time 0".
+    // Gives the fresh terminal of a set-up: "host flags off, vector and BIT words 0, last time 0". The address is not judged: `set_up` does.
     // Tables: none. Refusals: none.
     pub fn fresh(setup: Setup) -> Terminal
         ensures terminal { λ r. ⌜ r ≡ freshOf setup ⌝ }

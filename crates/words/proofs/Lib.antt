@@ -1,5 +1,4 @@
 pub mod Bits
-pub mod Cards
 pub mod Counts
 pub mod Flags
 pub mod Inverse

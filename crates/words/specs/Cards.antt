@@ -1,6 +1,6 @@
--- Document 01, "Bench cards": the starred cards on words. The table of all starred cards has a case that holds one of these. Assumes
--- nothing.
-use mathlib.Core.Bool.{Bool, true, _&&_}
+-- Document 01, "Bench cards": the starred cards on words. They stand in the one table of all cards, which the crate `terminal` has with its
+-- one proof. Assumes nothing.
+use mathlib.Core.Bool.{Bool}
 use mathlib.Core.List.{List, [], _∷_}
 use Prim.Native.Nat.{ℕ}
 use lib.Dec.{eqb}
@@ -14,10 +14,6 @@ pub data Card : Type 0 where
 unfoldable pub holds : Card → Bool
 holds (needs word parity) = eqb (parityOf word) parity
 holds (means count words) = eqb (wordsOf (commandOf (addressOf 0x2842) (transmitOf 0x2842) (subaddressOf 0x2842) count)) words
-
-unfoldable pub allHold : List Card → Bool
-allHold [] = true
-allHold (card ∷ rest) = holds card && allHold rest
 
 unfoldable pub wordCards : List Card
 wordCards =

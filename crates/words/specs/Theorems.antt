@@ -2,10 +2,9 @@
 use Prim.Native.Nat.{ℕ, zero, suc, _+_, _-_, _/_, _%_, _^_, _<_}
 use mathlib.Core.Path.{_≡_}
 use mathlib.Core.Bool.{Bool, true, false, cond, _||_}
-use lib.Dec.{T, eqb, leb}
+use lib.Dec.{eqb, leb}
 use Rattle.words.specs.Words.{fieldOf, gapOf, wordTicks, backToBackGap, dueDistance, noResponseDistance, addressOf, transmitOf, subaddressOf, countOf, commandOf, codeOf, isTransmit, bitOf, hasFlag, withFlag, flagsOf, statusOf, hasNoOther, isOdd, parityOf, isValid}
 use Rattle.words.specs.Modes.{rows, found, listingOf}
-use Rattle.words.specs.Cards.{wordCards, allHold}
 use Rattle.words.specs.declared.statuses.Flag.{Flag}
 use Rattle.words.specs.declared.modes.Listing.{Listing}
 use Rattle.words.specs.declared.modes.Listing.the-variants.{Reserved, Listed}
@@ -88,7 +87,3 @@ OnlyListed =
     ≡ cond (isTransmit word)
     (leb (codeOf word) 8 || eqb (codeOf word) 16 || eqb (codeOf word) 18 || eqb (codeOf word) 19)
     (eqb (codeOf word) 17 || eqb (codeOf word) 20 || eqb (codeOf word) 21)
-
--- The starred cards on words hold: word-cards
-abbrev pub WordCards : Type 0
-WordCards = T (allHold wordCards)

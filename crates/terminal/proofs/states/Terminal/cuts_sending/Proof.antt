@@ -7,20 +7,16 @@ use Rattle.terminal.proofs.states.Terminal.cuts_sending.Tie as tie
 is-own-requires : tie.Need-is-own-requires
 is-own-requires c κs = search needs
 
-is-sending-requires : tie.Need-is-sending-requires
-is-sending-requires c κs = search needs
-
 other-bus-requires : tie.Need-other-bus-requires
 other-bus-requires c κs = search needs
 
-is-sending-requires-2 : tie.Need-is-sending-requires-2
-is-sending-requires-2 c κs = search needs
+is-sending-requires : tie.Need-is-sending-requires
+is-sending-requires c κs = search needs
 
 returns : tie.Need-returns
 unfolding cutsSending
-returns c = rw (c .is-sending2 .ensures, c .before .other-bus .ensures, c .before .before .is-sending .ensures, c .before .before .before .is-own .ensures)
+returns c = rw (c .is-sending .ensures, c .before .other-bus .ensures, c .before .before .is-own .ensures)
 
 pub cuts-sending-spec : {M : Type 1} → statement M
 cuts-sending-spec =
-    tie.close
-    (tie.spec is-own-requires is-sending-requires other-bus-requires is-sending-requires-2 returns)
+    tie.close (tie.spec is-own-requires other-bus-requires is-sending-requires returns)
