@@ -52,8 +52,8 @@ abbrev pub isInRange : Event → Bool
 isInRange (Mark t) = onClock (t .0)
 isInRange (Word r) = inRange r
 
--- "Every event lends a receive and a transmit table of exactly 1,024 words". "Event: 1, 5, 6.": "a lent word table is not 1,024 words"; "a field or a time out of range"; "event earlier than the last". Of the tables
--- only their lengths matter.
+-- "Every event lends a receive and a transmit table of exactly 1,024 words". "Event: 1, 5, 6.": "a lent word table is not 1,024 words"; "a field
+-- or a time out of range"; "event earlier than the last". Of the tables only their lengths matter.
 unfoldable pub eventRefusal : State → Event → ℕ → ℕ → ℕ
 eventRefusal s e receive transmit =
     cond (eqb receive 1024 && eqb transmit 1024)
@@ -101,7 +101,8 @@ eventReceive s e receive transmit =
 
 -- ---- host calls
 
--- "No other call is refused." "Host calls set the flags (service request, busy, subsystem, terminal fault), vector and BIT words, clear the self-test request, or restart."
+-- "No other call is refused." "Host calls set the flags (service request, busy, subsystem, terminal fault), vector and BIT words, clear the
+-- self-test request, or restart."
 abbrev pub withHost : State → Host → State
 withHost s host =
     record { setup = s .setup; host = host; held = s .held; message = s .message; sending = s .sending; time = s .time }
