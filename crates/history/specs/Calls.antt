@@ -1,0 +1,94 @@
+-- Demand 3, "After any calls at all": the calls, and the terminal after a list of them. Assumes nothing.
+use Prim.Native.Nat.{ℕ}
+use mathlib.Core.Bool.{Bool, false, not, cond, _&&_}
+use mathlib.Core.List.{List, [], _∷_}
+use lib.Dec.{eqb}
+use lib.ListN.{length}
+use Rattle.words.specs.Refusals.{notRefused}
+use Rattle.terminal.specs.Commands.{isOwn}
+use Rattle.terminal.specs.Settling.{noAnswer}
+use Rattle.terminal.specs.Events.{setUpRefusal, setUpOf, eventRefusal, eventOf, withHost, withService, withBusy, withSubsystem, withFault, withVector, withBit, selftestCleared, restartedOf}
+use Rattle.terminal.specs.declared.states.Host.{Host}
+use Rattle.terminal.specs.declared.states.Terminal.{Terminal as State}
+use Rattle.terminal.specs.declared.answers.Answer.{Answer}
+use Rattle.terminal.specs.declared.events.Event.{Event}
+use Rattle.terminal.specs.declared.events.Event.the-variants.{Mark, Word}
+
+-- "Host calls set the flags (service request, busy, subsystem, terminal fault), vector and BIT words"
+pub data Setting : Type 0 where
+  service : Bool → Setting
+  busy : Bool → Setting
+  subsystem : Bool → Setting
+  fault : Bool → Setting
+  vector : ℕ → Setting
+  bit : ℕ → Setting
+
+-- Every call that gives another terminal: set-up with any address and any two lists of masks; an event with any receive and any transmit table;
+-- "Host calls set the flags .., vector and BIT words, clear the self-test request, or restart." The reads give none.
+pub data Call : Type 0 where
+  setUp : ℕ → List ℕ → List ℕ → Call
+  event : Event → List ℕ → List ℕ → Call
+  host : Setting → Call
+  clearSelftest : Call
+  restart : Call
+
+-- ---- accepted and refused
+
+abbrev pub isAccepted : State → Event → List ℕ → List ℕ → Bool
+isAccepted s e receive transmit = eqb (eventRefusal s e (length receive) (length transmit)) notRefused
+
+abbrev pub isSetUp : ℕ → List ℕ → List ℕ → Bool
+isSetUp address receive transmit = eqb (setUpRefusal address (length receive) (length transmit)) notRefused
+
+-- "No other call is refused."
+abbrev pub isRefused : State → Call → Bool
+isRefused s (setUp address receive transmit) = not (isSetUp address receive transmit)
+isRefused s (event e receive transmit) = not (isAccepted s e receive transmit)
+isRefused s (host setting) = false
+isRefused s clearSelftest = false
+isRefused s restart = false
+
+-- ---- the terminal after a call, and after a list of calls
+
+abbrev pub hostOf : Host → Setting → Host
+hostOf h (service on) = withService h on
+hostOf h (busy on) = withBusy h on
+hostOf h (subsystem on) = withSubsystem h on
+hostOf h (fault on) = withFault h on
+hostOf h (vector word) = withVector h word
+hostOf h (bit word) = withBit h word
+
+-- A refused set-up leaves the terminal that there was: "A refusal gives its number and nothing else".
+unfoldable pub step : State → Call → State
+step s (setUp address receive transmit) = cond (isSetUp address receive transmit) (setUpOf address receive transmit .terminal) s
+step s (event e receive transmit) = eventOf s e receive transmit .terminal
+step s (host setting) = withHost s (hostOf (s .host) setting)
+step s clearSelftest = selftestCleared s
+step s restart = restartedOf s
+
+unfoldable pub run : State → List Call → State
+run s [] = s
+run s (k ∷ ks) = run (step s k) ks
+
+-- "After any calls at all": the terminal that a set-up gives, then any list of calls.
+abbrev pub afterPast : ℕ → List ℕ → List ℕ → List Call → State
+afterPast address receive transmit past = run (setUpOf address receive transmit .terminal) past
+
+-- ---- what a call carries and brings
+
+-- the answer that it carries
+abbrev pub answerIn : State → Call → Answer
+answerIn s (setUp address receive transmit) = noAnswer
+answerIn s (event e receive transmit) = eventOf s e receive transmit .answer
+answerIn s (host setting) = noAnswer
+answerIn s clearSelftest = noAnswer
+answerIn s restart = noAnswer
+
+-- it brings an accepted "valid command to it or to all terminals"
+abbrev pub bringsOwn : State → Call → Bool
+bringsOwn s (setUp address receive transmit) = false
+bringsOwn s (event (Mark t) receive transmit) = false
+bringsOwn s (event (Word r) receive transmit) = isAccepted s (Word r) receive transmit && isOwn (s .setup .address) r
+bringsOwn s (host setting) = false
+bringsOwn s clearSelftest = false
+bringsOwn s restart = false

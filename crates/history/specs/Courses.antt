@@ -1,0 +1,106 @@
+-- The words in which demand 3 is said: the command, the course of calls to its answer, calls without an answer. Assumes nothing.
+use mathlib.Core.Path.{_≡_}
+use Prim.Native.Nat.{ℕ, _+_}
+use mathlib.Core.Bool.{Bool, true, false, not, _&&_, _||_}
+use mathlib.Core.List.{List, [], _∷_}
+use lib.Dec.{eqb, ltb}
+use Rattle.words.specs.Words.{dueDistance, addressOf, isSpaced, commandSync, dataSync}
+use Rattle.records.specs.declared.forms.WordRecord.{WordRecord}
+use Rattle.terminal.specs.Commands.{isValidRecord, isOwn, isExempt}
+use Rattle.terminal.specs.Messages.{isSending}
+use Rattle.terminal.specs.Settling.{isShut, noAnswer}
+use Rattle.terminal.specs.Rules.{rule1}
+use Rattle.terminal.specs.Events.{timeOf}
+use Rattle.terminal.specs.declared.states.Terminal.{Terminal as State}
+use Rattle.terminal.specs.declared.events.Event.the-variants.{Mark, Word}
+use Rattle.history.specs.Calls.{Call, setUp, event, host, clearSelftest, restart, isAccepted, isRefused, step, answerIn, bringsOwn}
+
+-- ---- the command
+
+pub record Command (s : State) (r : WordRecord) (receive transmit : List ℕ) : Type 0 where
+  -- "take an accepted,"
+  pub accepted : isAccepted s (Word r) receive transmit ≡ true
+  -- "valid command"
+  pub valid : isValidRecord r ≡ true
+  pub sync : r .sync ≡ commandSync
+  -- "to the terminal's own address,"
+  pub own : addressOf (r .word) ≡ s .setup .address
+  -- "on a bus where, once anything already due is settled, it is not sending"
+  pub quiet : isSending (rule1 s (r .time .0) transmit .sending) (r .bus) (r .time .0) ≡ false
+  -- "and its transmitter is on,"
+  pub on : isShut (rule1 s (r .time .0) transmit .held) (r .bus) ≡ false
+
+-- ---- the course of calls after it
+
+-- "with all its data words accepted, valid and spaced as document 01 says": a data word on the bus, after a word of that time. It is no second
+-- command word.
+pub record NextWord (s : State) (bus last : ℕ) (r : WordRecord) (receive transmit : List ℕ) : Type 0 where
+  pub accepted : isAccepted s (Word r) receive transmit ≡ true
+  pub valid : isValidRecord r ≡ true
+  pub sync : r .sync ≡ dataSync
+  pub on : r .bus ≡ bus
+  pub spaced : isSpaced last (r .time .0) ≡ true
+
+-- "Let nothing more come on that bus before the answer is due, no valid command to it or to all terminals on the other, and no restart by the
+-- host before the answer is carried." A set-up is taken for a restart (DECISIONS 20).
+abbrev pub isHarmless : ℕ → ℕ → Call → Bool
+isHarmless own bus (setUp address receive transmit) = false
+isHarmless own bus (event (Mark t) receive transmit) = true
+isHarmless own bus (event (Word r) receive transmit) = not (eqb (r .bus) bus) && not (isOwn own r)
+isHarmless own bus (host setting) = true
+isHarmless own bus clearSelftest = true
+isHarmless own bus restart = false
+
+-- A refused call may always come.
+abbrev pub mayCome : State → ℕ → Call → Bool
+mayCome s bus k = isRefused s k || isHarmless (s .setup .address) bus k
+
+-- the call is no event accepted at or after that time
+abbrev pub isEarlier : ℕ → Call → Bool
+isEarlier due (event e receive transmit) = ltb (timeOf e) due
+isEarlier due (setUp address receive transmit) = true
+isEarlier due (host setting) = true
+isEarlier due clearSelftest = true
+isEarlier due restart = true
+
+abbrev pub isBefore : State → ℕ → Call → Bool
+isBefore s due k = isRefused s k || isEarlier due k
+
+-- `Course bus s last words calls end`: from the terminal s on, after a word on the bus at the time `last`, the calls bring these data words, the
+-- last word at the time `end`, and between them calls that may come; once all words have come, no call is an event at or after the due time.
+pub data Course (bus : ℕ) : State → ℕ → List ℕ → List Call → ℕ → Type 0 where
+  over : {s : State} {last : ℕ} → Course bus s last [] [] last
+  between : {s : State} {last end : ℕ} {words : List ℕ} {k : Call} {ks : List Call}
+      → mayCome s bus k ≡ true
+      → (words ≡ [] → isBefore s (last + dueDistance) k ≡ true)
+      → Course bus (step s k) last words ks end
+      → Course bus s last words (k ∷ ks) end
+  word : {s : State} {last end : ℕ} {words : List ℕ} {r : WordRecord} {receive transmit : List ℕ} {ks : List Call}
+      → NextWord s bus last r receive transmit
+      → Course bus (step s (event (Word r) receive transmit)) (r .time .0) words ks end
+      → Course bus s last (r .word ∷ words) (event (Word r) receive transmit ∷ ks) end
+
+-- ---- calls without an answer, calls without an own command
+
+abbrev pub Silent : State → List Call → Type 0
+Silent s [] = Unit {0}
+Silent s (k ∷ ks) = (answerIn s k ≡ noAnswer) × Silent (step s k) ks
+
+abbrev pub NoOwn : State → List Call → Type 0
+NoOwn s [] = Unit {0}
+NoOwn s (k ∷ ks) = (bringsOwn s k ≡ false) × NoOwn (step s k) ks
+
+-- ---- calls that leave a fault marked
+
+-- "any calls that bring no own command other than the two exempt ones and no restart": time marks, any other records, host calls.
+abbrev pub isOutside : ℕ → Call → Bool
+isOutside own (setUp address receive transmit) = false
+isOutside own (event (Mark t) receive transmit) = true
+isOutside own (event (Word r) receive transmit) = not (isOwn own r) || isExempt own (r .word)
+isOutside own (host setting) = true
+isOutside own clearSelftest = true
+isOutside own restart = false
+
+abbrev pub AllOutside : State → List Call → Type 0
+AllOutside s [] = Unit {0}
+AllOutside s (k ∷ ks) = ((isRefused s k || isOutside (s .setup .address) k) ≡ true) × AllOutside (step s k) ks

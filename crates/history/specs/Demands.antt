@@ -1,0 +1,221 @@
+-- THE FIRST FILE TO READ. Demand 3 of the user, clause by clause, and what stands beside it: no word on one bus wipes out a fault of the other,
+-- refusals change nothing, what an own command does to what is under way, what can be reached, and a history that meets every premise. A
+-- statement is a type; its proof has the name above it and stands in proofs/. `Calls` and `Courses` say the words. Assumes nothing.
+use mathlib.Core.Path.{_≡_}
+use Prim.Native.Nat.{ℕ, _+_, _≤_}
+use mathlib.Core.Bool.{Bool, true, false, cond, _&&_}
+use mathlib.Core.List.{List, [], _∷_, _++_}
+use lib.Dec.{T}
+use lib.ListN.{length}
+use lib.Seq.{paste}
+use Rattle.words.specs.Words.{dueDistance, gapOf, wordsOf, hasFlag, withFlag}
+use Rattle.words.specs.declared.statuses.Flag.the-variants.{MessageError}
+use Rattle.records.specs.declared.forms.WordRecord.{WordRecord}
+use Rattle.terminal.specs.States.{noSending}
+use Rattle.terminal.specs.Commands.{isOwn, isExempt, awaitedOf}
+use Rattle.terminal.specs.Messages.{isUnderWay, isOn, isSending}
+use Rattle.terminal.specs.Settling.{otherBus, settledStatus, firstPlace, replyOf, storesData, noAnswer}
+use Rattle.terminal.specs.Rules.{begunOf, rule3}
+use Rattle.terminal.specs.Events.{timeOf, eventRefusal, passedOf, refusedOf, eventOf, eventReceive, withHost}
+use Rattle.terminal.specs.declared.states.Terminal.{Terminal as State}
+use Rattle.terminal.specs.declared.answers.Answer.{Answer}
+use Rattle.terminal.specs.declared.events.Event.{Event}
+use Rattle.terminal.specs.declared.events.Event.the-variants.{Mark, Word}
+use Rattle.history.specs.Calls.{Call, setUp, event, host, clearSelftest, restart, isAccepted, isRefused, step, run, afterPast, answerIn, bringsOwn}
+use Rattle.history.specs.Courses.{Command, Course, Silent, NoOwn, isOutside, AllOutside}
+use Rattle.history.specs.States.{marksFault, Sound}
+use Rattle.history.specs.Witnesses.{Met, allLost, answersAt1660, message, losses}
+
+-- ==== answered: "After any calls at all, take an accepted, valid command .. Then the first event accepted at or after the due time carries
+-- exactly one answer"
+
+-- the terminal as the command left it, with the flags and words that the host has set by the time of the event
+abbrev pub composing : State → List Call → State
+composing begun ks = withHost begun (run begun ks .host)
+
+-- "exactly one answer, its status word 8.0 microseconds after the last word, with the contents that demand 2 defines": on the command's bus, the
+-- status and the data words by the settling definitions, from the flags, the words and the transmit table of the event
+abbrev pub dueAnswer : State → WordRecord → ℕ → List ℕ → Answer
+dueAnswer s r end transmit = record {
+  given = true;
+  bus = r .bus;
+  due = record { 0 = end + dueDistance };
+  status = record { 0 = settledStatus s (r .word) };
+  count = replyOf s (r .word) transmit .count;
+  words = replyOf s (r .word) transmit .words;
+}
+
+-- the receive table then: the data words from the first place of the subaddress, where the command stores them
+abbrev pub dueTable : State → WordRecord → List ℕ → List ℕ → List ℕ
+dueTable s r words receive =
+    cond (storesData s (r .word)) (paste receive (firstPlace (r .word)) words (wordsOf (r .word))) receive
+
+-- What follows, from the terminal `begun` by the command r on, with those data words, those calls between, the last word at `end`, and the event e
+-- with its tables.
+pub record Carried (begun : State) (r : WordRecord) (words : List ℕ) (ks : List Call) (end : ℕ) (e : Event) (receive transmit : List ℕ) : Type 0 where
+  -- "Then the first event accepted at or after the due time carries exactly one answer, .. with the contents that demand 2 defines."
+  pub answer : eventOf (run begun ks) e receive transmit .answer ≡ dueAnswer (composing begun ks) r end transmit
+  -- "its status word 8.0 microseconds after the last word": 80 ticks from the middle of its parity bit
+  pub gap : gapOf end (eventOf (run begun ks) e receive transmit .answer .due .0) ≡ 80
+  -- and the data words are stored
+  pub table : eventReceive (run begun ks) e receive transmit ≡ dueTable (composing begun ks) r words receive
+  -- "exactly one": no call before it carries an answer
+  pub before : Silent begun ks
+  -- and none after it, until another valid command to it or to all terminals has come
+  pub after : bringsOwn (run begun ks) (event e receive transmit) ≡ false
+      → (more : List Call)
+      → NoOwn (step (run begun ks) (event e receive transmit)) more
+      → Silent (step (run begun ks) (event e receive transmit)) more
+
+-- of a terminal that is as it is now
+abbrev pub AnsweredFrom : State → Type 0
+AnsweredFrom s =
+    -- "take an accepted, valid command to the terminal's own address, .. on a bus where, once anything already due is settled, it is not sending
+    -- and its transmitter is on,"
+    (r : WordRecord) (receive transmit : List ℕ) → Command s r receive transmit
+    -- "without a second command word, .. with all its data words accepted, valid and spaced as document 01 says. Let nothing more come on that bus
+    -- before the answer is due, no valid command to it or to all terminals on the other, and no restart by the host before the answer is carried."
+    → (words : List ℕ) → length words ≡ awaitedOf (r .word)
+    → (ks : List Call) (end : ℕ) → Course (r .bus) (step s (event (Word r) receive transmit)) (r .time .0) words ks end
+    -- "Then the first event accepted at or after the due time"
+    → (e : Event) (receive' transmit' : List ℕ)
+    → isAccepted (run (step s (event (Word r) receive transmit)) ks) e receive' transmit' ≡ true
+    → end + dueDistance ≤ timeOf e
+    → Carried (step s (event (Word r) receive transmit)) r words ks end e receive' transmit'
+
+-- answered: of every terminal with "an own address 0 to 30", whatever else it holds
+abbrev pub Answered : Type 0
+Answered = (s : State) → s .setup .address ≤ 30 → AnsweredFrom s
+
+-- answered-after-any-past: "After any calls at all"
+abbrev pub AnsweredAfterAnyPast : Type 0
+AnsweredAfterAnyPast = (address : ℕ) (receive transmit : List ℕ) (past : List Call) → AnsweredFrom (afterPast address receive transmit past)
+
+-- ==== as-a-mark: "And an accepted record that is no valid command to it or to all terminals, on a bus where no message of its own is under way,
+-- acts exactly as a time mark of that moment."
+
+-- the same result whole: refusal, answer, cut, terminal; and the same receive table
+abbrev pub SameAsMark : State → WordRecord → List ℕ → List ℕ → Type 0
+SameAsMark s r receive transmit =
+    (eventOf s (Word r) receive transmit ≡ eventOf s (Mark (r .time)) receive transmit)
+    × (eventReceive s (Word r) receive transmit ≡ eventReceive s (Mark (r .time)) receive transmit)
+
+-- as-a-mark: no message is under way there before the event
+abbrev pub AsAMark : Type 0
+AsAMark =
+    (s : State) (r : WordRecord) (receive transmit : List ℕ) → isAccepted s (Word r) receive transmit ≡ true
+    → isOwn (s .setup .address) r ≡ false
+    → isOn (s .message) (r .bus) ≡ false
+    → SameAsMark s r receive transmit
+
+-- as-a-mark-once-settled: none is, once what is due at that moment is settled and what is late is faulty
+abbrev pub AsAMarkOnceSettled : Type 0
+AsAMarkOnceSettled =
+    (s : State) (r : WordRecord) (receive transmit : List ℕ) → isAccepted s (Word r) receive transmit ≡ true
+    → isOwn (s .setup .address) r ≡ false
+    → isOn (passedOf s (r .time .0) transmit .message) (r .bus) ≡ false
+    → SameAsMark s r receive transmit
+
+-- ==== no-wipe: "What I fear most: a word on bus B wipes out a fault marked a moment before on bus A."
+
+-- an answer on that bus with that status
+pub record Reports (a : Answer) (bus status : ℕ) : Type 0 where
+  pub given : a .given ≡ true
+  pub on : a .bus ≡ bus
+  pub says : a .status .0 ≡ status
+
+-- a terminal that holds this status, with message error, and answers with it
+pub record Marked (s : State) (status : ℕ) : Type 0 where
+  pub held : s .held .status .0 ≡ status
+  pub error : hasFlag MessageError status ≡ true
+  -- the next transmit status word or transmit last command, on a bus whose transmitter is on, answers with it, whatever may come between
+  pub answers : (r : WordRecord) (receive transmit : List ℕ) → Command s r receive transmit
+      → isExempt (s .setup .address) (r .word) ≡ true
+      → (ks : List Call) (end : ℕ) → Course (r .bus) (step s (event (Word r) receive transmit)) (r .time .0) [] ks end
+      → (e : Event) (receive' transmit' : List ℕ)
+      → isAccepted (run (step s (event (Word r) receive transmit)) ks) e receive' transmit' ≡ true
+      → end + dueDistance ≤ timeOf e
+      → Reports (eventOf (run (step s (event (Word r) receive transmit)) ks) e receive' transmit' .answer) (r .bus) status
+
+abbrev pub NoWipeFrom : State → Type 0
+NoWipeFrom s =
+    -- an accepted event marks a message faulty, by its time or by its word, on either bus,
+    (e : Event) (receive transmit : List ℕ) → isAccepted s e receive transmit ≡ true
+    → marksFault s e transmit ≡ true
+    → isOutside (s .setup .address) (event e receive transmit) ≡ true
+    -- then any calls, whatever words come on the other bus, but an own command that is not exempt and a restart:
+    → (ks : List Call) → AllOutside (step s (event e receive transmit)) ks
+    -- the stored status is that before the fault, with message error
+    → Marked (run (step s (event e receive transmit)) ks) (withFlag MessageError (s .held .status .0))
+
+abbrev pub NoWipe : Type 0
+NoWipe = (s : State) → s .setup .address ≤ 30 → NoWipeFrom s
+
+abbrev pub NoWipeAfterAnyPast : Type 0
+NoWipeAfterAnyPast = (address : ℕ) (receive transmit : List ℕ) (past : List Call) → NoWipeFrom (afterPast address receive transmit past)
+
+-- ==== refusals-keep: "A refusal gives the number in our table and changes no state and no lent table or buffer." (demand 1)
+
+-- a refused event gives the number and nothing else
+abbrev pub ShowsNothing : State → Call → Type 0
+ShowsNothing s (event e receive transmit) =
+    (eventOf s e receive transmit ≡ refusedOf s (eventRefusal s e (length receive) (length transmit)))
+    × (eventReceive s e receive transmit ≡ receive)
+ShowsNothing s (setUp address receive transmit) = Unit {0}
+ShowsNothing s (host setting) = Unit {0}
+ShowsNothing s clearSelftest = Unit {0}
+ShowsNothing s restart = Unit {0}
+
+-- the run with it is the run without it, for any past and future
+abbrev pub RefusalsKeep : Type 0
+RefusalsKeep =
+    (s : State) (past : List Call) (k : Call) (future : List Call) → isRefused (run s past) k ≡ true
+    → (run s (past ++ (k ∷ future)) ≡ run s (past ++ future)) × ShowsNothing (run s past) k
+
+-- ==== replaced, cut: "An own command replaces any message under way, and cuts a sending on the other bus; the result says so." "Replacement by
+-- itself marks no fault."
+
+-- The terminal after an own command r, from what it was once rules 1 and 2 were done: its message alone is under way, nothing is being sent, and
+-- message error is there only if it was and the command is exempt.
+pub record Begins (passed : State) (r : WordRecord) (after : State) : Type 0 where
+  pub message : after .message ≡ begunOf r
+  pub sending : after .sending ≡ noSending
+  pub fault : hasFlag MessageError (after .held .status .0)
+      ≡ (isExempt (passed .setup .address) (r .word) && hasFlag MessageError (passed .held .status .0))
+
+-- replaced: a message that is under way, on whichever bus, gets no answer, stores nothing and is no fault
+abbrev pub Replaced : Type 0
+Replaced =
+    (s : State) (r : WordRecord) (receive transmit : List ℕ) → isAccepted s (Word r) receive transmit ≡ true
+    → isOwn (s .setup .address) r ≡ true
+    → isUnderWay (passedOf s (r .time .0) transmit .message .phase) ≡ true
+    → rule3 (passedOf s (r .time .0) transmit) r ≡ false
+    → (eventOf s (Word r) receive transmit .answer ≡ noAnswer)
+    × (eventReceive s (Word r) receive transmit ≡ receive)
+    × Begins s r (eventOf s (Word r) receive transmit .terminal)
+
+-- cut: a sending on the other bus is cut, and the result says so;
+abbrev pub Cut : Type 0
+Cut =
+    (s : State) (r : WordRecord) (receive transmit : List ℕ) → isAccepted s (Word r) receive transmit ≡ true
+    → isOwn (s .setup .address) r ≡ true
+    → isSending (passedOf s (r .time .0) transmit .sending) (otherBus (r .bus)) (r .time .0) ≡ true
+    → (eventOf s (Word r) receive transmit .cut ≡ true)
+    × Begins (passedOf s (r .time .0) transmit) r (eventOf s (Word r) receive transmit .terminal)
+
+-- cut-by-own-alone: nothing else cuts one
+abbrev pub CutByOwnAlone : Type 0
+CutByOwnAlone =
+    (s : State) (e : Event) (receive transmit : List ℕ) → eventOf s e receive transmit .cut ≡ true → bringsOwn s (event e receive transmit) ≡ true
+
+-- ==== reachable: what every terminal after any past satisfies
+abbrev pub Reachable : Type 0
+Reachable = (address : ℕ) (receive transmit : List ℕ) (past : List Call) → Sound (afterPast address receive transmit past)
+
+-- ==== witness: one history meets every premise of `answered`
+abbrev pub Witness : Type 0
+Witness = Met
+
+-- needed: a plain message is answered at 1660, and with any one premise broken it is not
+abbrev pub Needed : Type 0
+Needed = T (answersAt1660 message) × T (allLost losses)

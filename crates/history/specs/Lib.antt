@@ -1,0 +1,6 @@
+-- Calls and pasts, the words in which demand 3 is said, its statements, and histories worked out.
+pub mod Calls
+pub mod Courses
+pub mod States
+pub mod Witnesses
+pub mod Demands

@@ -1,0 +1,93 @@
+-- Faults as they are marked, and what every terminal that can be reached is like. Assumes nothing.
+use mathlib.Core.Path.{_≡_}
+use Prim.Native.Nat.{ℕ, _+_, _≤_, _<_}
+use mathlib.Core.Bool.{Bool, true, false, not, _&&_, _||_}
+use mathlib.Core.List.{List}
+use lib.Dec.{eqb}
+use lib.ListN.{length}
+use Rattle.words.specs.Words.{onClock, addressOf, isBroadcast, isTransmit, isMode, hasNoOther}
+use Rattle.records.specs.declared.forms.WordRecord.{WordRecord}
+use Rattle.terminal.specs.Commands.{isOwn, isExempt, awaitedOf}
+use Rattle.terminal.specs.Messages.{isUnderWay, isOn, awaitsData, isLate, isNextData, isSecond, isStatusFrom}
+use Rattle.terminal.specs.Rules.{rule3}
+use Rattle.terminal.specs.Events.{timeOf, passedOf}
+use Rattle.terminal.specs.declared.states.Phase.{Phase}
+use Rattle.terminal.specs.declared.states.Phase.the-variants.{Idle, First, Pledged, Data}
+use Rattle.terminal.specs.declared.states.Message.{Message}
+use Rattle.terminal.specs.declared.states.Sending.{Sending}
+use Rattle.terminal.specs.declared.states.Terminal.{Terminal as State}
+use Rattle.terminal.specs.declared.events.Event.{Event}
+use Rattle.terminal.specs.declared.events.Event.the-variants.{Mark, Word}
+
+-- ---- a word that makes a message faulty
+
+-- "Any other record on the bus of a message under way must be its next word"
+abbrev pub isNextWord : Phase → State → WordRecord → Bool
+isNextWord Idle s r = true
+isNextWord Data s r = awaitsData (s .message) && isNextData (s .message) r
+isNextWord First s r = isSecond (s .setup .address) (s .message) r || (awaitsData (s .message) && isNextData (s .message) r)
+isNextWord (Pledged address) s r = isStatusFrom address r
+
+-- "Otherwise the message is faulty, also when all its words had come."
+abbrev pub isBadWord : State → WordRecord → Bool
+isBadWord s r =
+    not (rule3 s r) && not (isOwn (s .setup .address) r) && isOn (s .message) (r .bus) && not (isNextWord (s .message .phase) s r)
+
+-- An event marks a fault: by its time, rule 2, or by its word, rule 5; "(not for the two exempt commands)".
+abbrev pub hasBadWord : State → Event → Bool
+hasBadWord s (Mark t) = false
+hasBadWord s (Word r) = isBadWord s r
+
+abbrev pub marksFault : State → Event → List ℕ → Bool
+marksFault s e transmit =
+    not (isExempt (s .setup .address) (s .message .command .0))
+    && (isLate (s .message) (timeOf e) || hasBadWord (passedOf s (timeOf e) transmit) e)
+
+-- ---- what can be reached
+
+-- a command "to the own address or 31"
+abbrev pub isTo : ℕ → ℕ → Bool
+isTo own word = eqb (addressOf word) own || isBroadcast word
+
+-- a message under way
+pub record Waiting (s : State) (m : Message) : Type 0 where
+  -- "bus (1: 0 is A, 1 is B)"
+  pub bus : m .bus ≤ 1
+  -- begun by an own command
+  pub command : isTo (s .setup .address) (m .command .0) ≡ true
+  -- no word of it is later than the last event
+  pub last : m .last .0 ≤ s .time .0
+  -- no more words than are awaited, and never more than 32
+  pub got : m .got ≤ awaitedOf (m .command .0)
+  pub most : awaitedOf (m .command .0) ≤ 32
+  pub words : length (m .words) ≡ 32
+  -- a second command word, and the status after it, come "directly after a receive command that is no mode command"
+  pub first : m .phase ≡ First → m .got ≡ 0
+  pub pledged : (address : ℕ) → m .phase ≡ Pledged address → (m .got ≡ 0) × (isTransmit (m .command .0) ≡ false) × (isMode (m .command .0) ≡ false)
+  -- an own command ends any sending
+  pub alone : s .sending .on ≡ false
+
+-- a sending: "due time D up to, not including, D + 200 times the words sent", a status word and at most 32 data words
+pub record Window (s : State) (w : Sending) : Type 0 where
+  pub bus : w .bus ≤ 1
+  pub from : w .from .0 ≤ s .time .0
+  pub least : 1 ≤ w .words
+  pub most : w .words ≤ 33
+
+pub record Sound (s : State) : Type 0 where
+  -- "an own address 0 to 30 and two tables of 32 masks"
+  pub address : s .setup .address ≤ 30
+  pub receive : length (s .setup .receive) ≡ 32
+  pub transmit : length (s .setup .transmit) ≡ 32
+  -- "0 to 2^48 - 1"
+  pub time : onClock (s .time .0) ≡ true
+  -- the stored status has the own address and none of the bits 02E2: "instrumentation 0200 (always 0), .. reserved 00E0 (0), .. bus control
+  -- acceptance 0002 (always 0, house)"
+  pub status : addressOf (s .held .status .0) ≡ s .setup .address
+  pub spare : hasNoOther (s .held .status .0) ≡ true
+  -- the last command is an own one or 0
+  pub command : (eqb (s .held .command .0) 0 || isTo (s .setup .address) (s .held .command .0)) ≡ true
+  -- one transmitter for each bus
+  pub shut : length (s .held .shut) ≡ 2
+  pub message : isUnderWay (s .message .phase) ≡ true → Waiting s (s .message)
+  pub sending : s .sending .on ≡ true → Window s (s .sending)

@@ -1,0 +1,126 @@
+-- Histories worked out: one that meets every premise of `answered`, and for each premise one that breaks it and loses the answer. "Address 5, all
+-- legal, fresh", as on the bench cards. Assumes nothing.
+use mathlib.Core.Path.{_≡_}
+use Prim.Native.Nat.{ℕ, _-_, _^_}
+use mathlib.Core.Bool.{Bool, true, false, not, _&&_}
+use mathlib.Core.List.{List, [], _∷_, _++_}
+use lib.ListN.{replicate}
+use Rattle.words.specs.Words.{parityOf, commandSync}
+use Rattle.records.specs.declared.forms.WordRecord.{WordRecord}
+use Rattle.terminal.specs.Events.{eventOf}
+use Rattle.terminal.specs.Cards.{mark, heard, command, dataWord, badWord, zeros}
+use Rattle.terminal.specs.declared.states.Terminal.{Terminal as State}
+use Rattle.terminal.specs.declared.answers.Answer.{Answer}
+use Rattle.terminal.specs.declared.events.Event.{Event}
+use Rattle.terminal.specs.declared.events.Event.the-variants.{Word}
+use Rattle.history.specs.Calls.{Call, setUp, event, host, clearSelftest, restart, service, busy, vector, step, run, afterPast}
+use Rattle.history.specs.Courses.{Command, Course}
+
+-- an event with full tables
+unfoldable pub hears : Event → Call
+hears e = event e zeros zeros
+
+unfoldable pub allLegal : List ℕ
+allLegal = replicate 32 (2 ^ 32 - 1)
+
+unfoldable pub benchAfter : List Call → State
+benchAfter past = afterPast 5 allLegal allLegal past
+
+-- ---- a history that meets every premise
+
+-- A message on A that a bad word makes faulty; transmit status word on B and its answer; host calls, a restart; an event and a set-up refused.
+unfoldable pub past : List Call
+past =
+    hears (command 0 100 0x2842)
+    ∷ hears (badWord 0 300 0x0007)
+    ∷ hears (command 1 400 0x2C02)
+    ∷ hears (mark 700)
+    ∷ host (busy true)
+    ∷ restart
+    ∷ host (busy false)
+    ∷ hears (mark 5)
+    ∷ setUp 31 allLegal allLegal
+    ∷ []
+
+-- "2842 on bus A at 1000", two data words to subaddress 2
+unfoldable pub asked : WordRecord
+asked = record { time = record { 0 = 1000 }; bus = 0; sync = commandSync; faults = 0; word = 0x2842; parity = parityOf 0x2842 }
+
+-- Its data words at 1200 and 1400; between them marks, refused calls, words on bus B, host calls.
+unfoldable pub noise : List Call
+noise =
+    hears (mark 1100)
+    ∷ hears (badWord 1 1150 0x0003)
+    ∷ hears (dataWord 0 1200 0x0007)
+    ∷ host (service true)
+    ∷ hears (mark 5)
+    ∷ event (dataWord 0 1300 0x0001) [] zeros
+    ∷ hears (command 1 1350 0x0842)
+    ∷ hears (dataWord 0 1400 0x0009)
+    ∷ clearSelftest
+    ∷ hears (dataWord 1 1550 0x0842)
+    ∷ host (vector 0x1234)
+    ∷ hears (mark 1659)
+    ∷ []
+
+abbrev pub begun : State
+begun = step (benchAfter past) (event (Word asked) zeros zeros)
+
+-- its answer: on A, due 1660, the own address with service request, no data words
+unfoldable pub given : Answer
+given = record { given = true; bus = 0; due = record { 0 = 1660 }; status = record { 0 = 0x2900 }; count = 0; words = replicate 32 0 }
+
+-- It is such a command and such a course, and the first event after the due time, here an own command on bus B, carries the answer.
+pub record Met : Type 0 where
+  pub asks : Command (benchAfter past) asked zeros zeros
+  pub runs : Course 0 begun 1000 (0x0007 ∷ 0x0009 ∷ []) noise 1400
+  pub answer : eventOf (run begun noise) (command 1 9000 0x2C02) zeros zeros .answer ≡ given
+
+-- ---- for each premise, a history that breaks it alone
+
+-- A time mark at 1660 carries an answer after these calls, or none.
+unfoldable pub answersAt1660 : List Call → Bool
+answersAt1660 calls = eventOf (benchAfter calls) (mark 1660) zeros zeros .answer .given
+
+unfoldable pub allLost : List (List Call) → Bool
+allLost [] = true
+allLost (calls ∷ rest) = not (answersAt1660 calls) && allLost rest
+
+-- the message, with its first data word at 1200; its second at 1400
+unfoldable pub opening : List Call
+opening = hears (command 0 1000 0x2842) ∷ hears (dataWord 0 1200 0x0007) ∷ []
+
+unfoldable pub message : List Call
+message = opening ++ (hears (dataWord 0 1400 0x0009) ∷ [])
+
+unfoldable pub losses : List (List Call)
+losses =
+    -- not accepted: a table of the command's event is too short
+    (event (command 0 1000 0x2842) [] zeros ∷ hears (dataWord 0 1200 0x0007) ∷ hears (dataWord 0 1400 0x0009) ∷ [])
+    -- not valid: parity
+    ∷ (hears (heard 0 1000 commandSync 0x2842 (1 - parityOf 0x2842)) ∷ hears (dataWord 0 1200 0x0007) ∷ hears (dataWord 0 1400 0x0009) ∷ [])
+    -- no command: data sync
+    ∷ (hears (dataWord 0 1000 0x2842) ∷ hears (dataWord 0 1200 0x0007) ∷ hears (dataWord 0 1400 0x0009) ∷ [])
+    -- not to the own address: to 6, and to all
+    ∷ (hears (command 0 1000 0x3042) ∷ hears (dataWord 0 1200 0x0007) ∷ hears (dataWord 0 1400 0x0009) ∷ [])
+    ∷ (hears (command 0 1000 0xF842) ∷ hears (dataWord 0 1200 0x0007) ∷ hears (dataWord 0 1400 0x0009) ∷ [])
+    -- still sending on the bus: 2C42 at 600 is due at 860 and sent until 1460
+    ∷ (hears (command 0 600 0x2C42) ∷ message)
+    -- its transmitter is shut: 2C04 on B
+    ∷ (hears (command 1 100 0x2C04) ∷ hears (mark 360) ∷ message)
+    -- a second command word, to 6
+    ∷ (hears (command 0 1000 0x2842) ∷ hears (command 0 1200 0x3442) ∷ [])
+    -- a data word is missing, not accepted, not valid, not spaced
+    ∷ opening
+    ∷ (opening ++ (event (dataWord 0 1400 0x0009) zeros [] ∷ []))
+    ∷ (opening ++ (hears (badWord 0 1400 0x0009) ∷ []))
+    ∷ (opening ++ (hears (dataWord 0 1406 0x0009) ∷ []))
+    -- something more comes on the bus before the answer is due
+    ∷ (message ++ (hears (dataWord 0 1600 0x0001) ∷ []))
+    -- a valid command to it, or to all terminals, on the other bus
+    ∷ (message ++ (hears (command 1 1500 0x2C02) ∷ []))
+    ∷ (message ++ (hears (command 1 1500 0xFC01) ∷ []))
+    -- a restart by the host, a set-up
+    ∷ (message ++ (restart ∷ []))
+    ∷ (message ++ (setUp 5 allLegal allLegal ∷ []))
+    ∷ []
