@@ -1,2 +1,9 @@
 pub mod Tests
 pub mod Steps
+pub mod Marks
+pub mod Times
+pub mod Ways
+pub mod Idle
+pub mod Carrying
+pub mod Begun
+pub mod Answered

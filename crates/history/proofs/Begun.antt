@@ -1,0 +1,96 @@
+-- A command to the own address begins its message. Assumes nothing.
+use mathlib.Core.Path.{_≡_, refl, ap, _∙_}
+use Prim.Native.Nat.{ℕ}
+use mathlib.Core.Bool.{true, false, _&&_}
+use mathlib.Core.List.{List, []}
+use lib.Dec.{eqb}
+use borrow.Author.Tests.{eq-eqb}
+use Rattle.words.specs.Words.{addressOf, codeOf, isTransmit, isMode, commandSync}
+use Rattle.records.specs.declared.forms.WordRecord.{WordRecord}
+use Rattle.terminal.specs.Commands.{isValidRecord, isOwn, isExempt}
+use Rattle.terminal.specs.Messages.{isCounting, isLate, isSending}
+use Rattle.terminal.specs.Settling.{isShut}
+use Rattle.terminal.specs.Rules.{rule1, faultyOf, rule2, notedStatus, notedCommand, firstPhase, begunOf, rule4, rules3to6}
+use Rattle.terminal.specs.Events.{passedOf}
+use Rattle.terminal.specs.declared.states.Held.{Held}
+use Rattle.terminal.specs.declared.states.Phase.{Phase}
+use Rattle.terminal.specs.declared.states.Sending.{Sending}
+use Rattle.terminal.specs.declared.states.Setup.{Setup}
+use Rattle.terminal.specs.declared.states.Terminal.{Terminal as State}
+use Rattle.terminal.specs.declared.events.Event.the-variants.{Word}
+use Rattle.history.specs.Calls.{event, step}
+use Rattle.history.specs.Courses.{Command}
+use Rattle.history.proofs.Tests.{cond-cases}
+use Rattle.history.proofs.Steps.{accepted, stepped}
+use Rattle.history.proofs.Marks.{passed-setup}
+use Rattle.history.proofs.Ways.{Way, Gathered}
+
+-- rule 2 changes neither the sending nor which transmitters are shut
+passed-sending : (s : State) (t : ℕ) (transmit : List ℕ) → passedOf s t transmit .sending ≡ rule1 s t transmit .sending
+unfolding passedOf rule2 faultyOf
+passed-sending s t transmit =
+    cond-cases (λ (x : State). x .sending ≡ rule1 s t transmit .sending) (isLate (rule1 s t transmit .message) t) (λ late. refl) (λ in-time. refl)
+
+passed-shut : (s : State) (t : ℕ) (transmit : List ℕ) → passedOf s t transmit .held .shut ≡ rule1 s t transmit .held .shut
+unfolding passedOf rule2 faultyOf
+passed-shut s t transmit =
+    let x : State = rule1 s t transmit in
+    cond-cases (λ (y : State). y .held .shut ≡ x .held .shut) (isLate (x .message) t)
+    (λ late. cond-cases (λ (h : Held). h .shut ≡ x .held .shut) (isExempt (x .setup .address) (x .message .command .0)) (λ exempt. refl) (λ other. refl))
+    (λ in-time. refl)
+
+-- rule 4 shuts and opens none
+noted-shut : (own : ℕ) (h : Held) (word : ℕ) → notedCommand own (notedStatus own h word) word .shut ≡ h .shut
+unfolding notedCommand notedStatus
+noted-shut own h word =
+    let same : Held → Type 0 = λ x. x .shut ≡ h .shut in
+    let first : notedStatus own h word .shut ≡ h .shut = cond-cases same (isExempt own word) (λ exempt. refl) (λ other. refl) in
+    cond-cases same (isExempt own word && eqb (codeOf word) 18) (λ last. first) (λ other. first)
+
+first-counts : (word : ℕ) → isCounting (firstPhase word) ≡ true
+unfolding firstPhase
+first-counts word =
+    let counts : Phase → Type 0 = λ p. isCounting p ≡ true in
+    cond-cases counts (isTransmit word) (λ transmits. refl) (λ receives. cond-cases counts (isMode word) (λ mode. refl) (λ other. refl))
+
+pub begun-gathered : (r : WordRecord) → Gathered (r .bus) (r .word) (r .time .0) [] (begunOf r)
+unfolding begunOf
+begun-gathered r = record { counts = first-counts (r .word); on = refl; asked = refl; last = refl; got = refl; kept = refl; room = refl }
+
+own-command : (own : ℕ) (r : WordRecord) → isValidRecord r ≡ true → r .sync ≡ commandSync → addressOf (r .word) ≡ own → isOwn own r ≡ true
+unfolding isOwn
+own-command own r valid sync to =
+    let command : eqb (r .sync) commandSync ≡ true = rw sync in
+    rw (valid, command, eq-eqb (addressOf (r .word)) own to)
+
+rules-own : (s : State) (r : WordRecord) → isSending (s .sending) (r .bus) (r .time .0) ≡ false → isOwn (s .setup .address) r ≡ true → rules3to6 s r ≡ rule4 s r
+unfolding rules3to6
+rules-own s r quiet own = rw (quiet, own)
+
+module _ (s : State) (r : WordRecord) (receive transmit : List ℕ) (k : Command s r receive transmit) where
+  pub begun-step : step s (event (Word r) receive transmit) ≡ rule4 (passedOf s (r .time .0) transmit) r
+  begun-step =
+      let x : State = passedOf s (r .time .0) transmit in
+      let quiet : isSending (x .sending) (r .bus) (r .time .0) ≡ false =
+          ap (λ (y : Sending). isSending y (r .bus) (r .time .0)) (passed-sending s (r .time .0) transmit) ∙ k .quiet in
+      let own : isOwn (x .setup .address) r ≡ true =
+          ap (λ (y : Setup). isOwn (y .address) r) (passed-setup s (r .time .0) transmit) ∙ own-command (s .setup .address) r (k .valid) (k .sync) (k .own) in
+      stepped s (Word r) receive transmit (k .accepted) ∙ rules-own x r quiet own
+
+  pub begun-way : Way (step s (event (Word r) receive transmit)) (begunOf r) (step s (event (Word r) receive transmit))
+  unfolding rule4
+  begun-way =
+      record {
+        setup = refl;
+        held = refl;
+        message = ap (λ (y : State). y .message) begun-step;
+        sending = ap (λ (y : State). y .sending) begun-step;
+      }
+
+  pub begun-on : isShut (step s (event (Word r) receive transmit) .held) (r .bus) ≡ false
+  unfolding rule4
+  begun-on =
+      let x : State = passedOf s (r .time .0) transmit in
+      let same : step s (event (Word r) receive transmit) .held .shut ≡ rule1 s (r .time .0) transmit .held .shut =
+          ap (λ (y : State). y .held .shut) begun-step ∙ noted-shut (x .setup .address) (x .held) (r .word) ∙ passed-shut s (r .time .0) transmit in
+      rw same (k .on)

@@ -1,0 +1,76 @@
+-- A terminal with no message under way carries no answer until an own command comes. Assumes nothing.
+use mathlib.Core.Path.{_≡_, refl, sym, ap, _∙_}
+use Prim.Native.Nat.{ℕ}
+use mathlib.Core.Bool.{Bool, true, false}
+use mathlib.Core.List.{List, [], _∷_}
+use Rattle.terminal.specs.States.{noMessage}
+use Rattle.terminal.specs.Commands.{isOwn}
+use Rattle.terminal.specs.Messages.{isOn, awaitsData, isWhole, isDue, isLate}
+use Rattle.terminal.specs.Settling.{noAnswer}
+use Rattle.terminal.specs.Rules.{rule1Answer, settledOf, rule1, faultyOf, rule2}
+use Rattle.terminal.specs.Events.{timeOf, setUpOf, passedOf, takenOf, happensOf, eventOf}
+use Rattle.terminal.specs.declared.states.Message.{Message}
+use Rattle.terminal.specs.declared.states.Setup.{Setup}
+use Rattle.terminal.specs.declared.states.Terminal.{Terminal as State}
+use Rattle.terminal.specs.declared.events.Event.{Event}
+use Rattle.terminal.specs.declared.events.Event.the-variants.{Mark, Word}
+use Rattle.terminal.specs.declared.events.Happened.{Happened}
+use Rattle.terminal.specs.declared.setups.SetUp.{SetUp}
+use Rattle.history.specs.Calls.{Call, setUp, event, host, clearSelftest, restart, isAccepted, isSetUp, step, answerIn, bringsOwn}
+use Rattle.history.specs.Courses.{Silent, NoOwn}
+use Rattle.history.proofs.Tests.{cond-cases}
+use Rattle.history.proofs.Steps.{accepted, stepped, refused, refused-stays}
+use Rattle.history.proofs.Marks.{passed-setup, passed-message, passed-over}
+use Rattle.history.proofs.Ways.{still-answer}
+
+-- a terminal that a set-up gives has no message
+set-up-idle : (address : ℕ) (receive transmit : List ℕ) → setUpOf address receive transmit .terminal .message ≡ noMessage
+unfolding setUpOf
+set-up-idle address receive transmit =
+    cond-cases (λ (x : SetUp). x .terminal .message ≡ noMessage) (isSetUp address receive transmit) (λ set. refl) (λ bad. refl)
+
+-- where rules 1 and 2 leave none, an event that brings no own command leaves none
+pub event-idle : (s : State) (e : Event) (receive transmit : List ℕ) → isAccepted s e receive transmit ≡ true
+    → bringsOwn s (event e receive transmit) ≡ false
+    → passedOf s (timeOf e) transmit .message ≡ noMessage
+    → step s (event e receive transmit) .message ≡ noMessage
+event-idle s e receive transmit ok foreign idle = ap (λ (x : State). x .message) (stepped s e receive transmit ok) ∙ go e ok foreign idle
+  where
+    go : (e : Event) → isAccepted s e receive transmit ≡ true → bringsOwn s (event e receive transmit) ≡ false
+        → passedOf s (timeOf e) transmit .message ≡ noMessage
+        → takenOf (passedOf s (timeOf e) transmit) e .message ≡ noMessage
+    go (Mark t) ok foreign idle = idle
+    go (Word r) ok foreign idle =
+        let x : State = passedOf s (r .time .0) transmit in
+        let not-own : isOwn (s .setup .address) r ≡ false = rw ok at foreign in
+        let not-own1 : isOwn (x .setup .address) r ≡ false =
+            ap (λ (y : Setup). isOwn (y .address) r) (passed-setup s (r .time .0) transmit) ∙ not-own in
+        let off : isOn (x .message) (r .bus) ≡ false = ap (λ (m : Message). isOn m (r .bus)) idle ∙ (unfold isOn in refl) in
+        ap (λ (y : State). y .message) (passed-over x r not-own1 off) ∙ idle
+
+-- a call that brings no own command begins no message and carries no answer
+idle-call : (s : State) (k : Call) → s .message ≡ noMessage → bringsOwn s k ≡ false → (step s k .message ≡ noMessage) × (answerIn s k ≡ noAnswer)
+unfolding step
+idle-call s (setUp address receive transmit) idle foreign =
+    (cond-cases (λ (x : State). x .message ≡ noMessage) (isSetUp address receive transmit) (λ set. set-up-idle address receive transmit) (λ bad. idle), refl)
+idle-call s (event e receive transmit) idle foreign = go (isAccepted s e receive transmit) refl
+  where
+    none : Message → Type 0
+    none m = m ≡ noMessage
+    go : (b : Bool) → isAccepted s e receive transmit ≡ b
+        → (step s (event e receive transmit) .message ≡ noMessage) × (eventOf s e receive transmit .answer ≡ noAnswer)
+    go true ok =
+        (event-idle s e receive transmit ok foreign (passed-message none refl s (timeOf e) transmit idle),
+         still-answer s e receive transmit ok (ap (λ (m : Message). isDue m (timeOf e)) idle ∙ (unfold isDue isWhole in refl)))
+    go false bad =
+        (ap (λ (x : State). x .message) (refused-stays s e receive transmit bad) ∙ idle,
+         ap (λ (h : Happened). h .answer) (refused s e receive transmit bad))
+idle-call s (host setting) idle foreign = (idle, refl)
+idle-call s clearSelftest idle foreign = (idle, refl)
+idle-call s restart idle foreign = (refl, refl)
+
+pub idle-silent : (s : State) (ks : List Call) → s .message ≡ noMessage → NoOwn s ks → Silent s ks
+idle-silent s [] idle foreign = tt
+idle-silent s (k ∷ ks) idle foreign =
+    let now = idle-call s k idle (foreign .0) in
+    (now .1, idle-silent (step s k) ks (now .0) (foreign .1))

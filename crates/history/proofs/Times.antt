@@ -1,0 +1,102 @@
+-- A message on its way to its answer: what calls that may come leave as it is, and how a data word moves it on. Assumes nothing.
+use mathlib.Core.Path.{_≡_, refl, sym, ap, _∙_}
+use Prim.Native.Nat.{ℕ, zero, suc, _+_, _-_, _≤_, _<_}
+use mathlib.Core.Bool.{Bool, true, false, not, cond, _&&_, _||_}
+use mathlib.Core.List.{List, [], _∷_, _++_, append-assoc, append-nil}
+use native.Mathlib.Omega.{arith}
+use lib.Dec.{eqb, ltb, leb}
+use lib.ListN.{length, take, set, length-append, length-set}
+use lib.Seq.{take-suc-set}
+use borrow.Author.Tests.{ltb-true, leb-true, le-ltb, lt-ltb, le-leb, lt-leb, eq-eqb, not-true, not-false}
+use Rattle.words.specs.Words.{dueDistance, spacingMost, isSpaced, commandSync, dataSync}
+use Rattle.words.specs.declared.times.Moment.{Moment}
+use Rattle.records.specs.declared.forms.WordRecord.{WordRecord}
+use Rattle.terminal.specs.States.{noSending}
+use Rattle.terminal.specs.Commands.{isValidRecord, isOwn, awaitedOf}
+use Rattle.terminal.specs.Messages.{isUnderWay, isOn, isCounting, awaitsData, isWhole, isDue, isLate, isSending, isNextData, isSecond, isStatusFrom}
+use Rattle.terminal.specs.Settling.{noAnswer}
+use Rattle.terminal.specs.Effects.{withSelftest}
+use Rattle.terminal.specs.Rules.{withMessage, rule1Answer, rule1, rule2, rule4, stagedOf, nextData, nextWord, rule5, rules3to6, faultyOf}
+use Rattle.terminal.specs.Events.{timeOf, atTime, passedOf, takenOf, happensOf, eventOf}
+use Rattle.terminal.specs.declared.states.Phase.{Phase}
+use Rattle.terminal.specs.declared.states.Phase.the-variants.{Idle, First, Pledged, Data}
+use Rattle.terminal.specs.declared.states.Message.{Message}
+use Rattle.terminal.specs.declared.states.Sending.{Sending}
+use Rattle.terminal.specs.declared.states.Setup.{Setup}
+use Rattle.terminal.specs.declared.states.Terminal.{Terminal as State}
+use Rattle.terminal.specs.declared.events.Event.{Event}
+use Rattle.terminal.specs.declared.events.Event.the-variants.{Mark, Word}
+use Rattle.terminal.specs.declared.events.Happened.{Happened}
+use Rattle.terminal.proofs.Counts.{awaited-most}
+use Rattle.history.specs.Calls.{Call, setUp, event, host, clearSelftest, restart, isAccepted, isRefused, step, run, answerIn}
+use Rattle.history.specs.Courses.{NextWord, isHarmless, mayCome, isEarlier, isBefore, Course, over, between, word, Silent}
+use Rattle.history.proofs.Tests.{true≢, cond-cases, and-left, and-right, and-false, or-cases}
+use Rattle.history.proofs.Steps.{accepted, stepped, refused, refused-stays, refusal-keeps, not-earlier}
+use Rattle.history.proofs.Marks.{passed-over}
+
+-- ---- the time of the last event
+
+next-time : (p : Phase) (s : State) (r : WordRecord) → nextWord p s r .time ≡ s .time
+unfolding nextWord nextData faultyOf
+next-time p s r = go p
+  where
+    same : State → Type 0
+    same x = x .time ≡ s .time
+    data-time : nextData s r .time ≡ s .time
+    data-time = cond-cases same (awaitsData (s .message) && isNextData (s .message) r) (λ good. refl) (λ bad. refl)
+    go : (p : Phase) → nextWord p s r .time ≡ s .time
+    go Idle = refl
+    go Data = data-time
+    go First = cond-cases same (isSecond (s .setup .address) (s .message) r) (λ second. refl) (λ other. data-time)
+    go (Pledged address) = cond-cases same (isStatusFrom address r) (λ status. refl) (λ other. refl)
+
+rules-time : (s : State) (r : WordRecord) → rules3to6 s r .time ≡ s .time
+unfolding rules3to6 rule4 rule5
+rules-time s r =
+    cond-cases same (isSending (s .sending) (r .bus) (r .time .0)) (λ sending. refl)
+    (λ quiet.
+    cond-cases same (isOwn (s .setup .address) r) (λ own. refl)
+    (λ foreign. cond-cases same (isOn (s .message) (r .bus)) (λ on. next-time (s .message .phase) s r) (λ off. refl)))
+  where
+    same : State → Type 0
+    same x = x .time ≡ s .time
+
+-- an accepted event sets it
+pub event-time : (s : State) (e : Event) (receive transmit : List ℕ) → isAccepted s e receive transmit ≡ true
+    → step s (event e receive transmit) .time .0 ≡ timeOf e
+event-time s e receive transmit ok = ap (λ (x : State). x .time .0) (stepped s e receive transmit ok) ∙ go e
+  where
+    go : (e : Event) → takenOf (passedOf s (timeOf e) transmit) e .time .0 ≡ timeOf e
+    go (Mark t) = unfold passedOf in refl
+    go (Word r) = ap (λ (x : Moment). x .0) (rules-time (passedOf s (r .time .0) transmit) r) ∙ (unfold passedOf in refl)
+
+-- no call that may come sets it back
+time-grows : (s : State) (bus : ℕ) (k : Call) → mayCome s bus k ≡ true → s .time .0 ≤ step s k .time .0
+time-grows s bus k may =
+    or-cases (isRefused s k) (isHarmless (s .setup .address) bus k) may
+    (λ refusal. rw (refusal-keeps s k refusal) (omega arith))
+    (λ harmless. go k harmless)
+  where
+    go : (k : Call) → isHarmless (s .setup .address) bus k ≡ true → s .time .0 ≤ step s k .time .0
+    go (setUp address receive transmit) h = true≢ (sym h)
+    go (event e receive transmit) h = by (isAccepted s e receive transmit) refl
+      where
+        by : (b : Bool) → isAccepted s e receive transmit ≡ b → s .time .0 ≤ step s (event e receive transmit) .time .0
+        by true ok = rw (event-time s e receive transmit ok) (not-earlier s e receive transmit ok)
+        by false bad = rw (refused-stays s e receive transmit bad) (omega arith)
+    go (host setting) h = unfold step in omega arith
+    go clearSelftest h = unfold step in omega arith
+    go restart h = true≢ (sym h)
+
+-- ---- while a word is to come, and will come in time, nothing before it is late
+
+pub spaced-most : (last t : ℕ) → isSpaced last t ≡ true → t ≤ last + spacingMost
+unfolding isSpaced
+spaced-most last t h =
+    let most : leb (t - last) spacingMost ≡ true = search (and-right, h) in
+    omega (arith, leb-true (t - last) spacingMost most)
+
+pub ahead : {bus last end x : ℕ} {s : State} {words : List ℕ} {ks : List Call} → Course bus s last (x ∷ words) ks end → s .time .0 ≤ last + spacingMost
+ahead {bus} (between {s = s} {k = k} may before rest) = omega (arith, time-grows s bus k may, ahead rest)
+ahead (word {s = s} {last = last} {r = r} {receive = receive} {transmit = transmit} next rest) =
+    omega (arith, not-earlier s (Word r) receive transmit (next .accepted), spaced-most last (r .time .0) (next .spaced))
