@@ -1,22 +1,19 @@
 -- Demand 3, its first half: the answer to a command to the own address, whatever came before and whatever may come between. Assumes nothing.
 use mathlib.Core.Path.{_≡_, refl, sym, ap, _∙_}
 use Prim.Native.Nat.{ℕ, _+_, _≤_}
-use mathlib.Core.Bool.{Bool, true, false, not, cond, _&&_}
-use mathlib.Core.List.{List, [], _∷_, _++_}
+use mathlib.Core.Bool.{Bool, true, false, cond}
+use mathlib.Core.List.{List, [], _++_}
 use native.Mathlib.Omega.{arith}
-use lib.Dec.{eqb, leb}
 use lib.ListN.{length, take, drop}
 use lib.Seq.{paste, take-all}
 use borrow.Author.Tests.{le-leb, ne-eqb, not-true}
 use Rattle.words.specs.Words.{dueDistance, addressOf, wordsOf, isTransmit, isMode, isBroadcast}
-use Rattle.records.specs.declared.forms.WordRecord.{WordRecord}
-use Rattle.terminal.specs.States.{noMessage}
-use Rattle.terminal.specs.Commands.{isExempt, isLegal, awaitedOf}
-use Rattle.terminal.specs.Messages.{isCounting, isWhole, isDue, isLate}
-use Rattle.terminal.specs.Settling.{isShut, settledStatus, firstPlace, modeWords, legalReply, replyOf, storesData, storedOf, isWithheld, noAnswer, answerOf}
+use Rattle.terminal.specs.Commands.{awaitedOf}
+use Rattle.terminal.specs.Messages.{isWhole, isDue}
+use Rattle.terminal.specs.Settling.{isShut, settledStatus, firstPlace, modeWords, legalReply, replyOf, storesData, storedOf, isWithheld, answerOf}
 use Rattle.terminal.specs.Effects.{withSelftest}
-use Rattle.terminal.specs.Rules.{statusNow, replyNow, rule1Answer, rule1Receive, settledOf, rule1, faultyOf, rule2}
-use Rattle.terminal.specs.Events.{timeOf, passedOf, happensOf, eventOf, eventReceive, withHost}
+use Rattle.terminal.specs.Rules.{statusNow, replyNow, rule1Answer, rule1Receive}
+use Rattle.terminal.specs.Events.{timeOf, happensOf, eventOf, eventReceive, withHost}
 use Rattle.terminal.specs.declared.states.Held.{Held}
 use Rattle.terminal.specs.declared.states.Setup.{Setup}
 use Rattle.terminal.specs.declared.states.Message.{Message}
@@ -25,12 +22,11 @@ use Rattle.terminal.specs.declared.answers.Answer.{Answer}
 use Rattle.terminal.specs.declared.answers.Reply.{Reply}
 use Rattle.terminal.specs.declared.events.Event.{Event}
 use Rattle.terminal.specs.declared.events.Event.the-variants.{Word}
-use Rattle.terminal.specs.declared.events.Happened.{Happened}
-use Rattle.history.specs.Calls.{Call, event, isAccepted, step, run, bringsOwn}
-use Rattle.history.specs.Courses.{Command, Course}
-use Rattle.history.specs.Demands.{composing, dueAnswer, dueTable, Carried, AnsweredFrom, Answered}
-use Rattle.history.proofs.Tests.{true≢, cond-cases, and-left, and-right}
+use Rattle.history.specs.Calls.{event, isAccepted, step, run}
+use Rattle.history.specs.Demands.{composing, dueAnswer, Answered}
+use Rattle.history.proofs.Tests.{and-left, and-right}
 use Rattle.history.proofs.Steps.{accepted, accepted-table}
+use Rattle.history.proofs.Passing.{due-ends}
 use Rattle.history.proofs.Idle.{event-idle, idle-silent}
 use Rattle.history.proofs.Ways.{Way, Gathered}
 use Rattle.history.proofs.Carrying.{Arrived, carry}
@@ -69,13 +65,6 @@ unfolding isDue isWhole
 due-then {command = command} {latest = latest} {words = words} g all t h =
     rw (g .counts, g .asked, g .got, g .last, le-leb (awaitedOf command) (length words) (omega arith), le-leb (latest + dueDistance) t h)
 
--- rules 1 and 2 leave none
-due-ends : (s : State) (t : ℕ) (transmit : List ℕ) → isDue (s .message) t ≡ true → passedOf s t transmit .message ≡ noMessage
-unfolding passedOf rule1 rule2 settledOf faultyOf
-due-ends s t transmit due =
-    rw due
-    (cond-cases (λ (x : State). x .message ≡ noMessage) (isLate noMessage t) (λ late. refl) (λ in-time. refl))
-
 -- a message that stores its data words awaits as many as it stores
 stores-awaits : (s : State) (w : ℕ) → storesData s w ≡ true → awaitedOf w ≡ wordsOf w
 unfolding storesData awaitedOf
@@ -90,7 +79,6 @@ stores-awaits s w stores =
 module _ (begun : State) (bus w end : ℕ) (words : List ℕ) (s : State) {m : Message} (way : Way begun m s) (g : Gathered bus w end words m)
     (all : length words ≡ awaitedOf w) (own : isBroadcast w ≡ false) (on : isShut (begun .held) bus ≡ false)
     (e : Event) (receive transmit : List ℕ) (ok : isAccepted s e receive transmit ≡ true) (then : end + dueDistance ≤ timeOf e) where
-
   due : isDue (s .message) (timeOf e) ≡ true
   due = ap (λ (x : Message). isDue x (timeOf e)) (way .message) ∙ due-then g all (timeOf e) then
 
@@ -157,20 +145,20 @@ answered s few r receive transmit k words all ks end course e receive' transmit'
     let begun : State = step s (event (Word r) receive transmit) in
     let later : State = run begun ks in
     let way : Arrived begun (r .bus) (r .word) end words begun ks =
-        carry begun (r .bus) (r .word) [] (begun-way s r receive transmit k) (begun-gathered r) (omega arith) course in
+    carry begun (r .bus) (r .word) [] (begun-way s r receive transmit k) (begun-gathered r) (omega arith) course in
     let own : isBroadcast (r .word) ≡ false = not-broadcast (s .setup .address) (r .word) few (k .own) in
     let on : isShut (begun .held) (r .bus) ≡ false = begun-on s r receive transmit k in
     let answer : eventOf later e receive' transmit' .answer ≡ dueAnswer (composing begun ks) r end transmit' =
-        carries begun (r .bus) (r .word) end words later (way .way) (way .gathered) all own on e receive' transmit' ok then in
+    carries begun (r .bus) (r .word) end words later (way .way) (way .gathered) all own on e receive' transmit' ok then in
     record {
       answer = answer;
       gap = rw answer (omega arith);
       table = stores begun (r .bus) (r .word) end words later (way .way) (way .gathered) all own on e receive' transmit' ok then;
       before = way .silent;
       after = λ foreign more none.
-        idle-silent (step later (event e receive' transmit')) more
-        (event-idle later e receive' transmit' ok foreign
-        (due-ends later (timeOf e) transmit'
-        (due begun (r .bus) (r .word) end words later (way .way) (way .gathered) all own on e receive' transmit' ok then)))
-        none;
+          idle-silent (step later (event e receive' transmit')) more
+          (event-idle later e receive' transmit' ok foreign
+          (due-ends later (timeOf e) transmit'
+          (due begun (r .bus) (r .word) end words later (way .way) (way .gathered) all own on e receive' transmit' ok then)))
+          none;
     }

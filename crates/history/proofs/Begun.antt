@@ -8,9 +8,9 @@ use borrow.Author.Tests.{eq-eqb}
 use Rattle.words.specs.Words.{addressOf, codeOf, isTransmit, isMode, commandSync}
 use Rattle.records.specs.declared.forms.WordRecord.{WordRecord}
 use Rattle.terminal.specs.Commands.{isValidRecord, isOwn, isExempt}
-use Rattle.terminal.specs.Messages.{isCounting, isLate, isSending}
+use Rattle.terminal.specs.Messages.{isCounting, isSending}
 use Rattle.terminal.specs.Settling.{isShut}
-use Rattle.terminal.specs.Rules.{rule1, faultyOf, rule2, notedStatus, notedCommand, firstPhase, begunOf, rule4, rules3to6}
+use Rattle.terminal.specs.Rules.{rule1, notedStatus, notedCommand, firstPhase, begunOf, rule4, rules3to6}
 use Rattle.terminal.specs.Events.{passedOf}
 use Rattle.terminal.specs.declared.states.Held.{Held}
 use Rattle.terminal.specs.declared.states.Phase.{Phase}
@@ -21,23 +21,9 @@ use Rattle.terminal.specs.declared.events.Event.the-variants.{Word}
 use Rattle.history.specs.Calls.{event, step}
 use Rattle.history.specs.Courses.{Command}
 use Rattle.history.proofs.Tests.{cond-cases}
-use Rattle.history.proofs.Steps.{accepted, stepped}
-use Rattle.history.proofs.Marks.{passed-setup}
+use Rattle.history.proofs.Steps.{stepped}
+use Rattle.history.proofs.Passing.{passed-setup, passed-sending, passed-shut}
 use Rattle.history.proofs.Ways.{Way, Gathered}
-
--- rule 2 changes neither the sending nor which transmitters are shut
-passed-sending : (s : State) (t : ℕ) (transmit : List ℕ) → passedOf s t transmit .sending ≡ rule1 s t transmit .sending
-unfolding passedOf rule2 faultyOf
-passed-sending s t transmit =
-    cond-cases (λ (x : State). x .sending ≡ rule1 s t transmit .sending) (isLate (rule1 s t transmit .message) t) (λ late. refl) (λ in-time. refl)
-
-passed-shut : (s : State) (t : ℕ) (transmit : List ℕ) → passedOf s t transmit .held .shut ≡ rule1 s t transmit .held .shut
-unfolding passedOf rule2 faultyOf
-passed-shut s t transmit =
-    let x : State = rule1 s t transmit in
-    cond-cases (λ (y : State). y .held .shut ≡ x .held .shut) (isLate (x .message) t)
-    (λ late. cond-cases (λ (h : Held). h .shut ≡ x .held .shut) (isExempt (x .setup .address) (x .message .command .0)) (λ exempt. refl) (λ other. refl))
-    (λ in-time. refl)
 
 -- rule 4 shuts and opens none
 noted-shut : (own : ℕ) (h : Held) (word : ℕ) → notedCommand own (notedStatus own h word) word .shut ≡ h .shut
@@ -57,7 +43,7 @@ pub begun-gathered : (r : WordRecord) → Gathered (r .bus) (r .word) (r .time .
 unfolding begunOf
 begun-gathered r = record { counts = first-counts (r .word); on = refl; asked = refl; last = refl; got = refl; kept = refl; room = refl }
 
-own-command : (own : ℕ) (r : WordRecord) → isValidRecord r ≡ true → r .sync ≡ commandSync → addressOf (r .word) ≡ own → isOwn own r ≡ true
+pub own-command : (own : ℕ) (r : WordRecord) → isValidRecord r ≡ true → r .sync ≡ commandSync → addressOf (r .word) ≡ own → isOwn own r ≡ true
 unfolding isOwn
 own-command own r valid sync to =
     let command : eqb (r .sync) commandSync ≡ true = rw sync in
@@ -72,9 +58,9 @@ module _ (s : State) (r : WordRecord) (receive transmit : List ℕ) (k : Command
   begun-step =
       let x : State = passedOf s (r .time .0) transmit in
       let quiet : isSending (x .sending) (r .bus) (r .time .0) ≡ false =
-          ap (λ (y : Sending). isSending y (r .bus) (r .time .0)) (passed-sending s (r .time .0) transmit) ∙ k .quiet in
+      ap (λ (y : Sending). isSending y (r .bus) (r .time .0)) (passed-sending s (r .time .0) transmit) ∙ k .quiet in
       let own : isOwn (x .setup .address) r ≡ true =
-          ap (λ (y : Setup). isOwn (y .address) r) (passed-setup s (r .time .0) transmit) ∙ own-command (s .setup .address) r (k .valid) (k .sync) (k .own) in
+      ap (λ (y : Setup). isOwn (y .address) r) (passed-setup s (r .time .0) transmit) ∙ own-command (s .setup .address) r (k .valid) (k .sync) (k .own) in
       stepped s (Word r) receive transmit (k .accepted) ∙ rules-own x r quiet own
 
   pub begun-way : Way (step s (event (Word r) receive transmit)) (begunOf r) (step s (event (Word r) receive transmit))
@@ -92,5 +78,5 @@ module _ (s : State) (r : WordRecord) (receive transmit : List ℕ) (k : Command
   begun-on =
       let x : State = passedOf s (r .time .0) transmit in
       let same : step s (event (Word r) receive transmit) .held .shut ≡ rule1 s (r .time .0) transmit .held .shut =
-          ap (λ (y : State). y .held .shut) begun-step ∙ noted-shut (x .setup .address) (x .held) (r .word) ∙ passed-shut s (r .time .0) transmit in
+      ap (λ (y : State). y .held .shut) begun-step ∙ noted-shut (x .setup .address) (x .held) (r .word) ∙ passed-shut s (r .time .0) transmit in
       rw same (k .on)

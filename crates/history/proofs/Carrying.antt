@@ -15,7 +15,6 @@ use Rattle.terminal.specs.declared.events.Event.{Event}
 use Rattle.terminal.proofs.Counts.{awaited-most}
 use Rattle.history.specs.Calls.{Call, setUp, event, host, clearSelftest, restart, isAccepted, step, run}
 use Rattle.history.specs.Courses.{isBefore, Course, over, between, word, Silent}
-use Rattle.history.proofs.Steps.{accepted}
 use Rattle.history.proofs.Times.{event-time, ahead}
 use Rattle.history.proofs.Ways.{Way, Gathered, Calm, not-due, not-late, InTime, call-keeps, staged-gathered, word-moves, word-silent}
 
@@ -66,11 +65,11 @@ carry begun bus command {s} words {m = m} way g all (word {words = more} {r = r}
     let longer : length (words ++ (r .word ∷ [])) ≡ suc (length words) = simp length-append (omega arith) in
     let few : length words < 32 = omega (arith, awaited-most command) in
     let rest =
-        carry begun bus command (words ++ (r .word ∷ []))
-        (word-moves begun way g r receive transmit next more all)
-        (staged-gathered g r few)
-        (omega arith)
-        course in
+    carry begun bus command (words ++ (r .word ∷ []))
+    (word-moves begun way g r receive transmit next more all)
+    (staged-gathered g r few)
+    (omega arith)
+    course in
     record {
       message = rest .message;
       way = rest .way;

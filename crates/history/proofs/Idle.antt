@@ -1,14 +1,13 @@
 -- A terminal with no message under way carries no answer until an own command comes. Assumes nothing.
-use mathlib.Core.Path.{_≡_, refl, sym, ap, _∙_}
+use mathlib.Core.Path.{_≡_, refl, ap, _∙_}
 use Prim.Native.Nat.{ℕ}
 use mathlib.Core.Bool.{Bool, true, false}
 use mathlib.Core.List.{List, [], _∷_}
 use Rattle.terminal.specs.States.{noMessage}
 use Rattle.terminal.specs.Commands.{isOwn}
-use Rattle.terminal.specs.Messages.{isOn, awaitsData, isWhole, isDue, isLate}
+use Rattle.terminal.specs.Messages.{isOn, isWhole, isDue}
 use Rattle.terminal.specs.Settling.{noAnswer}
-use Rattle.terminal.specs.Rules.{rule1Answer, settledOf, rule1, faultyOf, rule2}
-use Rattle.terminal.specs.Events.{timeOf, setUpOf, passedOf, takenOf, happensOf, eventOf}
+use Rattle.terminal.specs.Events.{timeOf, setUpOf, passedOf, takenOf, eventOf}
 use Rattle.terminal.specs.declared.states.Message.{Message}
 use Rattle.terminal.specs.declared.states.Setup.{Setup}
 use Rattle.terminal.specs.declared.states.Terminal.{Terminal as State}
@@ -19,8 +18,9 @@ use Rattle.terminal.specs.declared.setups.SetUp.{SetUp}
 use Rattle.history.specs.Calls.{Call, setUp, event, host, clearSelftest, restart, isAccepted, isSetUp, step, answerIn, bringsOwn}
 use Rattle.history.specs.Courses.{Silent, NoOwn}
 use Rattle.history.proofs.Tests.{cond-cases}
-use Rattle.history.proofs.Steps.{accepted, stepped, refused, refused-stays}
-use Rattle.history.proofs.Marks.{passed-setup, passed-message, passed-over}
+use Rattle.history.proofs.Steps.{stepped, refused, refused-stays}
+use Rattle.history.proofs.Passing.{passed-setup, passed-message}
+use Rattle.history.proofs.Marks.{passed-over}
 use Rattle.history.proofs.Ways.{still-answer}
 
 -- a terminal that a set-up gives has no message
@@ -44,7 +44,7 @@ event-idle s e receive transmit ok foreign idle = ap (λ (x : State). x .message
         let x : State = passedOf s (r .time .0) transmit in
         let not-own : isOwn (s .setup .address) r ≡ false = rw ok at foreign in
         let not-own1 : isOwn (x .setup .address) r ≡ false =
-            ap (λ (y : Setup). isOwn (y .address) r) (passed-setup s (r .time .0) transmit) ∙ not-own in
+        ap (λ (y : Setup). isOwn (y .address) r) (passed-setup s (r .time .0) transmit) ∙ not-own in
         let off : isOn (x .message) (r .bus) ≡ false = ap (λ (m : Message). isOn m (r .bus)) idle ∙ (unfold isOn in refl) in
         ap (λ (y : State). y .message) (passed-over x r not-own1 off) ∙ idle
 
@@ -57,14 +57,17 @@ idle-call s (event e receive transmit) idle foreign = go (isAccepted s e receive
   where
     none : Message → Type 0
     none m = m ≡ noMessage
+
     go : (b : Bool) → isAccepted s e receive transmit ≡ b
         → (step s (event e receive transmit) .message ≡ noMessage) × (eventOf s e receive transmit .answer ≡ noAnswer)
-    go true ok =
-        (event-idle s e receive transmit ok foreign (passed-message none refl s (timeOf e) transmit idle),
-         still-answer s e receive transmit ok (ap (λ (m : Message). isDue m (timeOf e)) idle ∙ (unfold isDue isWhole in refl)))
-    go false bad =
-        (ap (λ (x : State). x .message) (refused-stays s e receive transmit bad) ∙ idle,
-         ap (λ (h : Happened). h .answer) (refused s e receive transmit bad))
+    go true ok = (
+      event-idle s e receive transmit ok foreign (passed-message none refl s (timeOf e) transmit idle),
+      still-answer s e receive transmit ok (ap (λ (m : Message). isDue m (timeOf e)) idle ∙ (unfold isDue isWhole in refl)),
+    )
+    go false bad = (
+      ap (λ (x : State). x .message) (refused-stays s e receive transmit bad) ∙ idle,
+      ap (λ (h : Happened). h .answer) (refused s e receive transmit bad),
+    )
 idle-call s (host setting) idle foreign = (idle, refl)
 idle-call s clearSelftest idle foreign = (idle, refl)
 idle-call s restart idle foreign = (refl, refl)

@@ -1,5 +1,6 @@
 pub mod Tests
 pub mod Steps
+pub mod Passing
 pub mod Marks
 pub mod Times
 pub mod Ways
@@ -7,3 +8,5 @@ pub mod Idle
 pub mod Carrying
 pub mod Begun
 pub mod Answered
+pub mod Standing
+pub mod Wiping

@@ -1,42 +1,19 @@
 -- A record that is nothing of the terminal's own acts as a time mark. Assumes nothing.
 use mathlib.Core.Path.{_≡_, refl, sym, ap, _∙_}
-use Prim.Native.Nat.{ℕ}
-use mathlib.Core.Bool.{Bool, true, false, cond}
-use mathlib.Core.List.{List}
+use mathlib.Core.Bool.{false}
 use Rattle.records.specs.declared.forms.WordRecord.{WordRecord}
-use Rattle.terminal.specs.States.{noMessage}
 use Rattle.terminal.specs.Commands.{isOwn}
-use Rattle.terminal.specs.Messages.{isOn, isDue, isLate, isSending}
-use Rattle.terminal.specs.Rules.{settledOf, faultyOf, rule1, rule2, cutsSending, rules3to6}
-use Rattle.terminal.specs.Events.{passedOf, happensOf, eventOf}
+use Rattle.terminal.specs.Messages.{isOn, isSending}
+use Rattle.terminal.specs.Rules.{cutsSending, rules3to6}
+use Rattle.terminal.specs.Events.{passedOf, happensOf}
 use Rattle.terminal.specs.declared.states.Message.{Message}
 use Rattle.terminal.specs.declared.states.Setup.{Setup}
 use Rattle.terminal.specs.declared.states.Terminal.{Terminal as State}
 use Rattle.terminal.specs.declared.events.Event.the-variants.{Mark, Word}
-use Rattle.history.specs.Calls.{isAccepted}
 use Rattle.history.specs.Demands.{AsAMark, AsAMarkOnceSettled}
-use Rattle.history.proofs.Tests.{cond-cases, cond-same}
+use Rattle.history.proofs.Tests.{cond-same}
+use Rattle.history.proofs.Passing.{passed-setup, passed-message}
 use Rattle.history.proofs.Steps.{accepted, accepted-table, mark-accepted}
-
--- ---- rules 1 and 2
-
--- they keep the setup
-pub passed-setup : (s : State) (t : ℕ) (transmit : List ℕ) → passedOf s t transmit .setup ≡ s .setup
-unfolding passedOf rule1 rule2 settledOf faultyOf
-passed-setup s t transmit =
-    cond-cases same (isLate (rule1 s t transmit .message) t) (λ late. first) (λ in-time. first)
-  where
-    same : State → Type 0
-    same x = x .setup ≡ s .setup
-    first : rule1 s t transmit .setup ≡ s .setup
-    first = cond-cases same (isDue (s .message) t) (λ due. refl) (λ not-due. refl)
-
--- they begin no message: what holds of none and of that under way holds after them
-pub passed-message : (P : Message → Type 0) → P noMessage → (s : State) (t : ℕ) (transmit : List ℕ) → P (s .message) → P (passedOf s t transmit .message)
-unfolding passedOf rule1 rule2 settledOf faultyOf
-passed-message P none s t transmit h =
-    cond-cases (λ (x : State). P (x .message)) (isLate (rule1 s t transmit .message) t) (λ late. none)
-    (λ in-time. cond-cases (λ (x : State). P (x .message)) (isDue (s .message) t) (λ due. none) (λ not-due. h))
 
 -- ---- rule 6
 
@@ -56,9 +33,10 @@ as-a-mark-once-settled s r receive transmit ok foreign off =
     let ok-mark = mark-accepted s r receive transmit ok in
     let s1 : State = passedOf s (r .time .0) transmit in
     let foreign1 : isOwn (s1 .setup .address) r ≡ false =
-        ap (λ (x : Setup). isOwn (x .address) r) (passed-setup s (r .time .0) transmit) ∙ foreign in
-    (rw (accepted s (Word r) receive transmit ok, accepted s (Mark (r .time)) receive transmit ok-mark, passed-over s1 r foreign1 off, cuts-nothing s1 r foreign1),
-     accepted-table s (Word r) receive transmit ok ∙ sym (accepted-table s (Mark (r .time)) receive transmit ok-mark))
+    ap (λ (x : Setup). isOwn (x .address) r) (passed-setup s (r .time .0) transmit) ∙ foreign in (
+      rw (accepted s (Word r) receive transmit ok, accepted s (Mark (r .time)) receive transmit ok-mark, passed-over s1 r foreign1 off, cuts-nothing s1 r foreign1),
+      accepted-table s (Word r) receive transmit ok ∙ sym (accepted-table s (Mark (r .time)) receive transmit ok-mark),
+    )
 
 pub as-a-mark : AsAMark
 as-a-mark s r receive transmit ok foreign off =

@@ -1,14 +1,12 @@
 -- A call that is accepted, and one that is refused. Assumes nothing.
 use mathlib.Core.Path.{_≡_, refl, sym, ap, _∙_}
-use Prim.Native.Nat.{ℕ, _≤_, _^_}
-use mathlib.Core.Bool.{Bool, true, false, not, cond, _&&_}
+use Prim.Native.Nat.{ℕ, _≤_}
+use mathlib.Core.Bool.{Bool, true, false, cond, _&&_}
 use mathlib.Core.List.{List, [], _∷_, _++_}
-use native.Mathlib.Omega.{arith}
-use lib.Dec.{eqb, ltb, leb}
+use lib.Dec.{eqb, leb}
 use lib.ListN.{length}
-use borrow.Author.Tests.{leb-true, eqb-true, eq-eqb, not-true, not-false}
+use borrow.Author.Tests.{leb-true, not-true}
 use Rattle.words.specs.Words.{onClock}
-use Rattle.words.specs.Refusals.{notRefused}
 use Rattle.records.specs.Records.{inRange}
 use Rattle.records.specs.declared.forms.WordRecord.{WordRecord}
 use Rattle.terminal.specs.Rules.{rule1Receive}
@@ -112,6 +110,7 @@ run-append s (k ∷ past) future = run-append (step s k) past future
 
 pub refusals-keep : RefusalsKeep
 unfolding run
-refusals-keep s past k future h =
-    (run-append s past (k ∷ future) ∙ ap (λ (x : State). run x future) (refusal-keeps (run s past) k h) ∙ sym (run-append s past future),
-     shows-nothing (run s past) k h)
+refusals-keep s past k future h = (
+  run-append s past (k ∷ future) ∙ ap (λ (x : State). run x future) (refusal-keeps (run s past) k h) ∙ sym (run-append s past future),
+  shows-nothing (run s past) k h,
+)

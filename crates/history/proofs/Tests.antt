@@ -1,6 +1,6 @@
 -- What a test that passed, or failed, says. Assumes nothing.
 use mathlib.Core.Path.{_≡_, refl, sym}
-use mathlib.Core.Bool.{Bool, true, false, not, cond, _&&_, _||_, true≢false}
+use mathlib.Core.Bool.{Bool, true, false, cond, _&&_, _||_, true≢false}
 
 -- a test does not go both ways
 pub true≢ : {X : Type 0} → true ≡ false → X
@@ -26,6 +26,10 @@ and-right false b h = true≢ (sym h)
 pub and-false : (a : Bool) → (a && false) ≡ false
 and-false true = refl
 and-false false = refl
+
+pub or-false : {P : Type 0} (a b : Bool) → (a || b) ≡ false → (a ≡ false → b ≡ false → P) → P
+or-false true b h p = true≢ h
+or-false false b h p = p refl h
 
 pub or-cases : {P : Type 0} (a b : Bool) → (a || b) ≡ true → (a ≡ true → P) → (b ≡ true → P) → P
 or-cases true b h p q = p refl

@@ -1,38 +1,27 @@
 -- A message on its way to its answer: what calls that may come leave as it is, and how a data word moves it on. Assumes nothing.
 use mathlib.Core.Path.{_≡_, refl, sym, ap, _∙_}
-use Prim.Native.Nat.{ℕ, zero, suc, _+_, _-_, _≤_, _<_}
-use mathlib.Core.Bool.{Bool, true, false, not, cond, _&&_, _||_}
-use mathlib.Core.List.{List, [], _∷_, _++_, append-assoc, append-nil}
+use Prim.Native.Nat.{ℕ, _+_, _-_, _≤_}
+use mathlib.Core.Bool.{Bool, true, false, _&&_}
+use mathlib.Core.List.{List, _∷_}
 use native.Mathlib.Omega.{arith}
-use lib.Dec.{eqb, ltb, leb}
-use lib.ListN.{length, take, set, length-append, length-set}
-use lib.Seq.{take-suc-set}
-use borrow.Author.Tests.{ltb-true, leb-true, le-ltb, lt-ltb, le-leb, lt-leb, eq-eqb, not-true, not-false}
-use Rattle.words.specs.Words.{dueDistance, spacingMost, isSpaced, commandSync, dataSync}
+use lib.Dec.{leb}
+use borrow.Author.Tests.{leb-true}
+use Rattle.words.specs.Words.{spacingMost, isSpaced}
 use Rattle.words.specs.declared.times.Moment.{Moment}
 use Rattle.records.specs.declared.forms.WordRecord.{WordRecord}
-use Rattle.terminal.specs.States.{noSending}
-use Rattle.terminal.specs.Commands.{isValidRecord, isOwn, awaitedOf}
-use Rattle.terminal.specs.Messages.{isUnderWay, isOn, isCounting, awaitsData, isWhole, isDue, isLate, isSending, isNextData, isSecond, isStatusFrom}
-use Rattle.terminal.specs.Settling.{noAnswer}
-use Rattle.terminal.specs.Effects.{withSelftest}
-use Rattle.terminal.specs.Rules.{withMessage, rule1Answer, rule1, rule2, rule4, stagedOf, nextData, nextWord, rule5, rules3to6, faultyOf}
-use Rattle.terminal.specs.Events.{timeOf, atTime, passedOf, takenOf, happensOf, eventOf}
+use Rattle.terminal.specs.Commands.{isOwn}
+use Rattle.terminal.specs.Messages.{isOn, awaitsData, isSending, isNextData, isSecond, isStatusFrom}
+use Rattle.terminal.specs.Rules.{rule4, nextData, nextWord, rule5, rules3to6, faultyOf}
+use Rattle.terminal.specs.Events.{timeOf, passedOf, takenOf}
 use Rattle.terminal.specs.declared.states.Phase.{Phase}
 use Rattle.terminal.specs.declared.states.Phase.the-variants.{Idle, First, Pledged, Data}
-use Rattle.terminal.specs.declared.states.Message.{Message}
-use Rattle.terminal.specs.declared.states.Sending.{Sending}
-use Rattle.terminal.specs.declared.states.Setup.{Setup}
 use Rattle.terminal.specs.declared.states.Terminal.{Terminal as State}
 use Rattle.terminal.specs.declared.events.Event.{Event}
 use Rattle.terminal.specs.declared.events.Event.the-variants.{Mark, Word}
-use Rattle.terminal.specs.declared.events.Happened.{Happened}
-use Rattle.terminal.proofs.Counts.{awaited-most}
-use Rattle.history.specs.Calls.{Call, setUp, event, host, clearSelftest, restart, isAccepted, isRefused, step, run, answerIn}
-use Rattle.history.specs.Courses.{NextWord, isHarmless, mayCome, isEarlier, isBefore, Course, over, between, word, Silent}
-use Rattle.history.proofs.Tests.{true≢, cond-cases, and-left, and-right, and-false, or-cases}
-use Rattle.history.proofs.Steps.{accepted, stepped, refused, refused-stays, refusal-keeps, not-earlier}
-use Rattle.history.proofs.Marks.{passed-over}
+use Rattle.history.specs.Calls.{Call, setUp, event, host, clearSelftest, restart, isAccepted, isRefused, step}
+use Rattle.history.specs.Courses.{isHarmless, mayCome, Course, between, word}
+use Rattle.history.proofs.Tests.{true≢, cond-cases, and-right, or-cases}
+use Rattle.history.proofs.Steps.{stepped, refused-stays, refusal-keeps, not-earlier}
 
 -- ---- the time of the last event
 
@@ -42,8 +31,10 @@ next-time p s r = go p
   where
     same : State → Type 0
     same x = x .time ≡ s .time
+
     data-time : nextData s r .time ≡ s .time
     data-time = cond-cases same (awaitsData (s .message) && isNextData (s .message) r) (λ good. refl) (λ bad. refl)
+
     go : (p : Phase) → nextWord p s r .time ≡ s .time
     go Idle = refl
     go Data = data-time

@@ -1,13 +1,13 @@
 -- A message on its way to its answer: what calls that may come leave as it is, and how a data word moves it on. Assumes nothing.
 use mathlib.Core.Path.{_≡_, refl, sym, ap, _∙_}
 use Prim.Native.Nat.{ℕ, suc, _+_, _≤_, _<_}
-use mathlib.Core.Bool.{Bool, true, false, not, cond, _&&_, _||_}
-use mathlib.Core.List.{List, [], _∷_, _++_, append-assoc, append-nil}
+use mathlib.Core.Bool.{Bool, true, false, not, _&&_}
+use mathlib.Core.List.{List, [], _∷_, _++_}
 use native.Mathlib.Omega.{arith}
 use lib.Dec.{eqb, ltb, leb}
-use lib.ListN.{length, take, set, length-append, length-set}
+use lib.ListN.{length, take, length-append, length-set}
 use lib.Seq.{take-suc-set}
-use borrow.Author.Tests.{ltb-true, le-ltb, lt-ltb, le-leb, lt-leb, eq-eqb, ne-eqb, eqb-false, not-true}
+use borrow.Author.Tests.{le-ltb, lt-ltb, lt-leb, eq-eqb, ne-eqb, eqb-false, not-true}
 use Rattle.words.specs.Words.{dueDistance, spacingMost, commandSync, dataSync}
 use Rattle.words.proofs.Truth.{and-both}
 use Rattle.records.specs.declared.forms.WordRecord.{WordRecord}
@@ -16,24 +16,23 @@ use Rattle.terminal.specs.Commands.{isValidRecord, isOwn, awaitedOf}
 use Rattle.terminal.specs.Messages.{isUnderWay, isOn, isCounting, awaitsData, isWhole, isDue, isLate, isSending, isNextData, isSecond}
 use Rattle.terminal.specs.Settling.{noAnswer}
 use Rattle.terminal.specs.Effects.{withSelftest}
-use Rattle.terminal.specs.Rules.{withMessage, rule1Answer, rule1, rule2, stagedOf, nextData, nextWord, rule5, rules3to6}
+use Rattle.terminal.specs.Rules.{withMessage, rule1Answer, stagedOf, nextData, nextWord, rule5, rules3to6}
 use Rattle.terminal.specs.Events.{timeOf, atTime, passedOf, takenOf, happensOf, eventOf}
 use Rattle.terminal.specs.declared.states.Phase.{Phase}
 use Rattle.terminal.specs.declared.states.Phase.the-variants.{Idle, First, Pledged, Data}
 use Rattle.terminal.specs.declared.states.Message.{Message}
 use Rattle.terminal.specs.declared.states.Sending.{Sending}
-use Rattle.terminal.specs.declared.states.Setup.{Setup}
 use Rattle.terminal.specs.declared.states.Terminal.{Terminal as State}
 use Rattle.terminal.specs.declared.events.Event.{Event}
 use Rattle.terminal.specs.declared.events.Event.the-variants.{Mark, Word}
 use Rattle.terminal.specs.declared.events.Happened.{Happened}
-use Rattle.terminal.proofs.Counts.{awaited-most}
-use Rattle.history.specs.Calls.{Call, setUp, event, host, clearSelftest, restart, isAccepted, isSetUp, isRefused, step, run, answerIn}
-use Rattle.history.specs.Courses.{NextWord, isHarmless, mayCome, isEarlier, isBefore, Course, over, between, word, Silent}
-use Rattle.history.proofs.Tests.{true≢, and-left, and-right, and-false, or-cases}
+use Rattle.history.specs.Calls.{Call, setUp, event, host, clearSelftest, restart, isAccepted, isSetUp, step, answerIn}
+use Rattle.history.specs.Courses.{NextWord, isHarmless, mayCome}
+use Rattle.history.proofs.Tests.{true≢, and-false, or-cases}
 use Rattle.history.proofs.Steps.{accepted, stepped, refused, refused-stays, refusal-keeps}
+use Rattle.history.proofs.Passing.{still}
 use Rattle.history.proofs.Marks.{passed-over}
-use Rattle.history.proofs.Times.{event-time, ahead, spaced-most}
+use Rattle.history.proofs.Times.{spaced-most}
 
 -- the terminal as the command left it, but for the host's parts, the self-test request, the time and the message, which is now m
 pub record Way (begun : State) (m : Message) (s : State) : Type 0 where
@@ -69,10 +68,6 @@ module _ {bus command latest : ℕ} {words : List ℕ} {m : Message} (g : Gather
   unfolding isLate awaitsData
   not-late [] t all calm = rw (g .counts, g .asked, g .got, le-ltb (length words) (awaitedOf command) (omega arith))
   not-late (x ∷ rest) t all calm = rw (g .last, le-ltb (latest + spacingMost) t calm) (and-false (isCounting (m .phase) && ltb (m .got) (awaitedOf (m .command .0))))
-
-pub still : (s : State) (t : ℕ) (transmit : List ℕ) → isDue (s .message) t ≡ false → isLate (s .message) t ≡ false → passedOf s t transmit ≡ atTime s t
-unfolding passedOf rule1 rule2
-still s t transmit due late = rw (due, late)
 
 pub still-answer : (s : State) (e : Event) (receive transmit : List ℕ) → isAccepted s e receive transmit ≡ true
     → isDue (s .message) (timeOf e) ≡ false
@@ -128,12 +123,14 @@ module _ (begun : State) (m : Message) (s : State) (way : Way begun m s) (bus : 
       go : (b : Bool) → isAccepted s e receive transmit ≡ b
           → Way begun m (step s (event e receive transmit)) × (eventOf s e receive transmit .answer ≡ noAnswer)
       go true ok =
-          let harmless : isHarmless (s .setup .address) bus (event e receive transmit) ≡ true = rw ok at may in
-          (event-keeps e receive transmit ok harmless (in-time ok),
-           still-answer s e receive transmit ok (rw (way .message) (in-time ok .0)))
-      go false bad =
-          (rw (refused-stays s e receive transmit bad) way,
-           ap (λ (h : Happened). h .answer) (refused s e receive transmit bad))
+          let harmless : isHarmless (s .setup .address) bus (event e receive transmit) ≡ true = rw ok at may in (
+            event-keeps e receive transmit ok harmless (in-time ok),
+            still-answer s e receive transmit ok (rw (way .message) (in-time ok .0)),
+          )
+      go false bad = (
+        rw (refused-stays s e receive transmit bad) way,
+        ap (λ (h : Happened). h .answer) (refused s e receive transmit bad),
+      )
   call-keeps (setUp address receive transmit) may in-time =
       (rw (refusal-keeps s (setUp address receive transmit) (or-cases (not (isSetUp address receive transmit)) false may (λ h. h) (λ h. true≢ (sym h)))) way, refl)
   call-keeps (host setting) may in-time =
@@ -174,7 +171,7 @@ rules-data : (s : State) (r : WordRecord) → isSending (s .sending) (r .bus) (r
 unfolding rules3to6 rule5
 rules-data s r quiet foreign on = rw (quiet, foreign, on)
 
-counting-under-way : (p : Phase) → isCounting p ≡ true → isUnderWay p ≡ true
+pub counting-under-way : (p : Phase) → isCounting p ≡ true → isUnderWay p ≡ true
 counting-under-way Idle h = h
 counting-under-way First h = refl
 counting-under-way (Pledged address) h = refl
@@ -200,7 +197,6 @@ staged-gathered {words = words} {m = m} g r few =
 module _ (begun : State) {m : Message} {s : State} (way : Way begun m s) {bus command latest : ℕ} {words : List ℕ} (g : Gathered bus command latest words m)
     (r : WordRecord) (receive transmit : List ℕ) (next : NextWord s bus latest r receive transmit) (rest : List ℕ)
     (all : length words + length (r .word ∷ rest) ≡ awaitedOf command) where
-
   in-time : (isDue m (r .time .0) ≡ false) × (isLate m (r .time .0) ≡ false)
   in-time =
       let calm : r .time .0 ≤ latest + spacingMost = spaced-most latest (r .time .0) (next .spaced) in

@@ -3,7 +3,7 @@
 -- statement is a type; its proof has the name above it and stands in proofs/. `Calls` and `Courses` say the words. Assumes nothing.
 use mathlib.Core.Path.{_≡_}
 use Prim.Native.Nat.{ℕ, _+_, _≤_}
-use mathlib.Core.Bool.{Bool, true, false, cond, _&&_}
+use mathlib.Core.Bool.{true, false, cond, _&&_}
 use mathlib.Core.List.{List, [], _∷_, _++_}
 use lib.Dec.{T}
 use lib.ListN.{length}
@@ -21,7 +21,7 @@ use Rattle.terminal.specs.declared.states.Terminal.{Terminal as State}
 use Rattle.terminal.specs.declared.answers.Answer.{Answer}
 use Rattle.terminal.specs.declared.events.Event.{Event}
 use Rattle.terminal.specs.declared.events.Event.the-variants.{Mark, Word}
-use Rattle.history.specs.Calls.{Call, setUp, event, host, clearSelftest, restart, isAccepted, isRefused, step, run, afterPast, answerIn, bringsOwn}
+use Rattle.history.specs.Calls.{Call, setUp, event, host, clearSelftest, restart, isAccepted, isRefused, step, run, afterPast, bringsOwn}
 use Rattle.history.specs.Courses.{Command, Course, Silent, NoOwn, isOutside, AllOutside}
 use Rattle.history.specs.States.{marksFault, Sound}
 use Rattle.history.specs.Witnesses.{Met, allLost, answersAt1660, message, losses}
@@ -124,18 +124,22 @@ pub record Reports (a : Answer) (bus status : ℕ) : Type 0 where
   pub on : a .bus ≡ bus
   pub says : a .status .0 ≡ status
 
--- a terminal that holds this status, with message error, and answers with it
+-- the next transmit status word or transmit last command, on a bus whose transmitter is on, answers with that status, whatever may come between
+abbrev pub AnswersWith : State → ℕ → Type 0
+AnswersWith s status =
+    (r : WordRecord) (receive transmit : List ℕ) → Command s r receive transmit
+    → isExempt (s .setup .address) (r .word) ≡ true
+    → (ks : List Call) (end : ℕ) → Course (r .bus) (step s (event (Word r) receive transmit)) (r .time .0) [] ks end
+    → (e : Event) (receive' transmit' : List ℕ)
+    → isAccepted (run (step s (event (Word r) receive transmit)) ks) e receive' transmit' ≡ true
+    → end + dueDistance ≤ timeOf e
+    → Reports (eventOf (run (step s (event (Word r) receive transmit)) ks) e receive' transmit' .answer) (r .bus) status
+
+-- a terminal that holds this status, with message error in it, and answers with it
 pub record Marked (s : State) (status : ℕ) : Type 0 where
   pub held : s .held .status .0 ≡ status
   pub error : hasFlag MessageError status ≡ true
-  -- the next transmit status word or transmit last command, on a bus whose transmitter is on, answers with it, whatever may come between
-  pub answers : (r : WordRecord) (receive transmit : List ℕ) → Command s r receive transmit
-      → isExempt (s .setup .address) (r .word) ≡ true
-      → (ks : List Call) (end : ℕ) → Course (r .bus) (step s (event (Word r) receive transmit)) (r .time .0) [] ks end
-      → (e : Event) (receive' transmit' : List ℕ)
-      → isAccepted (run (step s (event (Word r) receive transmit)) ks) e receive' transmit' ≡ true
-      → end + dueDistance ≤ timeOf e
-      → Reports (eventOf (run (step s (event (Word r) receive transmit)) ks) e receive' transmit' .answer) (r .bus) status
+  pub answers : AnswersWith s status
 
 abbrev pub NoWipeFrom : State → Type 0
 NoWipeFrom s =

@@ -1,0 +1,70 @@
+-- Rules 1 and 2: what they leave as it is, and what they end. Assumes nothing.
+use mathlib.Core.Path.{_≡_, refl, sym}
+use Prim.Native.Nat.{ℕ}
+use mathlib.Core.Bool.{true, false}
+use mathlib.Core.List.{List}
+use Rattle.terminal.specs.States.{noMessage}
+use Rattle.terminal.specs.Commands.{isExempt}
+use Rattle.terminal.specs.Messages.{isUnderWay, awaitsData, isDue, isLate}
+use Rattle.terminal.specs.Rules.{settledOf, rule1, faultyOf, rule2}
+use Rattle.terminal.specs.Events.{atTime, passedOf}
+use Rattle.terminal.specs.declared.states.Held.{Held}
+use Rattle.terminal.specs.declared.states.Message.{Message}
+use Rattle.terminal.specs.declared.states.Terminal.{Terminal as State}
+use Rattle.history.proofs.Tests.{true≢, cond-cases}
+
+-- they keep the setup
+pub passed-setup : (s : State) (t : ℕ) (transmit : List ℕ) → passedOf s t transmit .setup ≡ s .setup
+unfolding passedOf rule1 rule2 settledOf faultyOf
+passed-setup s t transmit =
+    cond-cases same (isLate (rule1 s t transmit .message) t) (λ late. first) (λ in-time. first)
+  where
+    same : State → Type 0
+    same x = x .setup ≡ s .setup
+
+    first : rule1 s t transmit .setup ≡ s .setup
+    first = cond-cases same (isDue (s .message) t) (λ due. refl) (λ not-due. refl)
+
+-- they begin no message: what holds of none and of that under way holds after them
+pub passed-message : (P : Message → Type 0) → P noMessage → (s : State) (t : ℕ) (transmit : List ℕ) → P (s .message) → P (passedOf s t transmit .message)
+unfolding passedOf rule1 rule2 settledOf faultyOf
+passed-message P none s t transmit h =
+    cond-cases (λ (x : State). P (x .message)) (isLate (rule1 s t transmit .message) t) (λ late. none)
+    (λ in-time. cond-cases (λ (x : State). P (x .message)) (isDue (s .message) t) (λ due. none) (λ not-due. h))
+
+-- rule 2 changes neither the sending nor which transmitters are shut
+pub passed-sending : (s : State) (t : ℕ) (transmit : List ℕ) → passedOf s t transmit .sending ≡ rule1 s t transmit .sending
+unfolding passedOf rule2 faultyOf
+passed-sending s t transmit =
+    cond-cases (λ (x : State). x .sending ≡ rule1 s t transmit .sending) (isLate (rule1 s t transmit .message) t) (λ late. refl) (λ in-time. refl)
+
+pub passed-shut : (s : State) (t : ℕ) (transmit : List ℕ) → passedOf s t transmit .held .shut ≡ rule1 s t transmit .held .shut
+unfolding passedOf rule2 faultyOf
+passed-shut s t transmit =
+    let x : State = rule1 s t transmit in
+    cond-cases (λ (y : State). y .held .shut ≡ x .held .shut) (isLate (x .message) t)
+    (λ late. cond-cases (λ (h : Held). h .shut ≡ x .held .shut) (isExempt (x .setup .address) (x .message .command .0)) (λ exempt. refl) (λ other. refl))
+    (λ in-time. refl)
+
+-- where nothing is due and nothing late they set the time alone
+pub still : (s : State) (t : ℕ) (transmit : List ℕ) → isDue (s .message) t ≡ false → isLate (s .message) t ≡ false → passedOf s t transmit ≡ atTime s t
+unfolding passedOf rule1 rule2
+still s t transmit due late = rw (due, late)
+
+-- a message that is under way after them was neither due nor late
+pub passed-under-way : (s : State) (t : ℕ) (transmit : List ℕ) → isUnderWay (passedOf s t transmit .message .phase) ≡ true
+    → (isDue (s .message) t ≡ false) × (isLate (s .message) t ≡ false)
+unfolding passedOf rule1 settledOf rule2 faultyOf isLate awaitsData
+passed-under-way s t transmit =
+    let Fact : Type 0 = (isDue (s .message) t ≡ false) × (isLate (s .message) t ≡ false) in
+    cond-cases (λ (x : State). isUnderWay (rule2 x t .message .phase) ≡ true → Fact) (isDue (s .message) t) (λ due h. true≢ (sym h))
+    (λ not-due.
+    cond-cases (λ (x : State). isUnderWay (x .message .phase) ≡ true → Fact) (isLate (s .message) t) (λ late h. true≢ (sym h))
+    (λ in-time h. (not-due, in-time)))
+
+-- a message that is due is ended
+pub due-ends : (s : State) (t : ℕ) (transmit : List ℕ) → isDue (s .message) t ≡ true → passedOf s t transmit .message ≡ noMessage
+unfolding passedOf rule1 rule2 settledOf faultyOf
+due-ends s t transmit due =
+    rw due
+    (cond-cases (λ (x : State). x .message ≡ noMessage) (isLate noMessage t) (λ late. refl) (λ in-time. refl))
