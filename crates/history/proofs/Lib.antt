@@ -1,5 +1,6 @@
 pub mod Tests
 pub mod Steps
+pub mod Phases
 pub mod Passing
 pub mod Marks
 pub mod Times
@@ -10,3 +11,8 @@ pub mod Begun
 pub mod Answered
 pub mod Standing
 pub mod Wiping
+pub mod Statuses
+pub mod Holdings
+pub mod Waitings
+pub mod Reached
+pub mod Pasts

@@ -1,5 +1,5 @@
 -- Rules 1 and 2: what they leave as it is, and what they end. Assumes nothing.
-use mathlib.Core.Path.{_≡_, refl, sym}
+use mathlib.Core.Path.{_≡_, refl}
 use Prim.Native.Nat.{ℕ}
 use mathlib.Core.Bool.{true, false}
 use mathlib.Core.List.{List}
@@ -11,7 +11,7 @@ use Rattle.terminal.specs.Events.{atTime, passedOf}
 use Rattle.terminal.specs.declared.states.Held.{Held}
 use Rattle.terminal.specs.declared.states.Message.{Message}
 use Rattle.terminal.specs.declared.states.Terminal.{Terminal as State}
-use Rattle.history.proofs.Tests.{true≢, cond-cases}
+use Rattle.history.proofs.Tests.{false≢, cond-cases}
 
 -- they keep the setup
 pub passed-setup : (s : State) (t : ℕ) (transmit : List ℕ) → passedOf s t transmit .setup ≡ s .setup
@@ -57,9 +57,9 @@ pub passed-under-way : (s : State) (t : ℕ) (transmit : List ℕ) → isUnderWa
 unfolding passedOf rule1 settledOf rule2 faultyOf isLate awaitsData
 passed-under-way s t transmit =
     let Fact : Type 0 = (isDue (s .message) t ≡ false) × (isLate (s .message) t ≡ false) in
-    cond-cases (λ (x : State). isUnderWay (rule2 x t .message .phase) ≡ true → Fact) (isDue (s .message) t) (λ due h. true≢ (sym h))
+    cond-cases (λ (x : State). isUnderWay (rule2 x t .message .phase) ≡ true → Fact) (isDue (s .message) t) (λ due h. false≢ h)
     (λ not-due.
-    cond-cases (λ (x : State). isUnderWay (x .message .phase) ≡ true → Fact) (isLate (s .message) t) (λ late h. true≢ (sym h))
+    cond-cases (λ (x : State). isUnderWay (x .message .phase) ≡ true → Fact) (isLate (s .message) t) (λ late h. false≢ h)
     (λ in-time h. (not-due, in-time)))
 
 -- a message that is due is ended

@@ -1,5 +1,5 @@
 -- A stored status stands through all that brings no own command but the two exempt ones. Assumes nothing.
-use mathlib.Core.Path.{_≡_, refl, sym, ap, _∙_}
+use mathlib.Core.Path.{_≡_, refl, ap, _∙_}
 use Prim.Native.Nat.{ℕ}
 use mathlib.Core.Bool.{Bool, true, false, not, _&&_, _||_}
 use mathlib.Core.List.{List, [], _∷_}
@@ -8,7 +8,7 @@ use borrow.Author.Tests.{eqb-true}
 use Rattle.words.specs.Words.{addressOf, codeOf, isTransmit, isMode}
 use Rattle.records.specs.declared.forms.WordRecord.{WordRecord}
 use Rattle.terminal.specs.Commands.{isOwn, isExempt, isLegal, awaitedOf}
-use Rattle.terminal.specs.Messages.{isUnderWay, isOn, awaitsData, isWhole, isDue, isLate, isSending, isNextData, isSecond, isStatusFrom}
+use Rattle.terminal.specs.Messages.{isUnderWay, isOn, awaitsData, isDue, isLate, isSending, isNextData, isSecond, isStatusFrom}
 use Rattle.terminal.specs.Settling.{settledStatus}
 use Rattle.terminal.specs.Effects.{withStatus, effectOf, heldAfter}
 use Rattle.terminal.specs.Rules.{withMessage, statusNow, settledOf, rule1, faultyOf, rule2, notedStatus, notedCommand, begunOf, rule4, stagedOf, movedOf, nextData, nextWord, rule5, rules3to6}
@@ -23,8 +23,8 @@ use Rattle.terminal.specs.declared.events.Event.{Event}
 use Rattle.terminal.specs.declared.events.Event.the-variants.{Mark, Word}
 use Rattle.history.specs.Calls.{Call, setUp, event, host, clearSelftest, restart, isAccepted, isSetUp, isRefused, step, run}
 use Rattle.history.specs.Courses.{isOutside, AllOutside}
-use Rattle.history.proofs.Tests.{true≢, cond-cases, and-left, and-right, or-cases}
-use Rattle.history.proofs.Ways.{counting-under-way}
+use Rattle.history.proofs.Tests.{false≢, false≢, cond-cases, and-left, and-right, or-cases}
+use Rattle.history.proofs.Phases.{due-under-way, late-under-way}
 use Rattle.history.proofs.Steps.{stepped, refused-stays, refusal-keeps}
 
 -- ---- the two exempt commands
@@ -76,22 +76,14 @@ module _ {setup : Setup} {status : ℕ} where
         holds = cond-cases keeps (isLegal (s .setup) w && isMode w)
             (λ acts. ap (λ (h : Held). h .status .0) (exempt-effect (s .setup .address) w noted (s .message .bus) _ exempt) ∙ stays ∙ st .holds)
             (λ other. stays ∙ st .holds);
-        passing = λ h. true≢ (sym h);
+        passing = λ h. false≢ h;
       }
 
   faulty-stands : (s : State) → Standing setup status s → isUnderWay (s .message .phase) ≡ true → Standing setup status (faultyOf s)
   unfolding faultyOf
   faulty-stands s st on =
       let exempt : isExempt (s .setup .address) (s .message .command .0) ≡ true = rw (st .same) (st .passing on) in
-      record { same = st .same; holds = rw exempt (st .holds); passing = λ h. true≢ (sym h) }
-
-due-on : (m : Message) (t : ℕ) → isDue m t ≡ true → isUnderWay (m .phase) ≡ true
-unfolding isDue isWhole
-due-on m t due = counting-under-way (m .phase) (search (and-left, due))
-
-late-on : (m : Message) (t : ℕ) → isLate m t ≡ true → isUnderWay (m .phase) ≡ true
-unfolding isLate awaitsData
-late-on m t late = counting-under-way (m .phase) (search (and-left, late))
+      record { same = st .same; holds = rw exempt (st .holds); passing = λ h. false≢ h }
 
 -- ---- an event
 
@@ -101,10 +93,10 @@ module _ {setup : Setup} {status : ℕ} where
   unfolding passedOf rule1 rule2
   passed-stands s t transmit st =
       let first : Standing setup status (rule1 s t transmit) =
-      cond-cases (Standing setup status) (isDue (s .message) t) (λ due. settled-stands s transmit st (due-on (s .message) t due)) (λ not-due. st) in
+      cond-cases (Standing setup status) (isDue (s .message) t) (λ due. settled-stands s transmit st (due-under-way (s .message) t due)) (λ not-due. st) in
       let x : State = rule1 s t transmit in
       let both : Standing setup status (rule2 x t) =
-      cond-cases (Standing setup status) (isLate (x .message) t) (λ late. faulty-stands x first (late-on (x .message) t late)) (λ in-time. first) in
+      cond-cases (Standing setup status) (isLate (x .message) t) (λ late. faulty-stands x first (late-under-way (x .message) t late)) (λ in-time. first) in
       record { same = both .same; holds = both .holds; passing = both .passing }
 
   -- the next word of an exempt command leaves it, and so does a word that is not
@@ -171,10 +163,10 @@ module _ {setup : Setup} {status : ℕ} where
           (taken-stands (passedOf s (timeOf e) transmit) e receive transmit (passed-stands s (timeOf e) transmit st) (rw (← st .same) (rw ok at outside)))
       go false bad = rw (refused-stays s e receive transmit bad) st
   call-stands s (setUp address receive transmit) st outside =
-      rw (refusal-keeps s (setUp address receive transmit) (or-cases (not (isSetUp address receive transmit)) false outside (λ h. h) (λ h. true≢ (sym h)))) st
+      rw (refusal-keeps s (setUp address receive transmit) (or-cases (not (isSetUp address receive transmit)) false outside (λ h. h) (λ h. false≢ h))) st
   call-stands s (host setting) st outside = record { same = st .same; holds = st .holds; passing = st .passing }
   call-stands s clearSelftest st outside = record { same = st .same; holds = st .holds; passing = st .passing }
-  call-stands s restart st outside = true≢ (sym outside)
+  call-stands s restart st outside = false≢ outside
 
   pub run-stands : (s : State) (ks : List Call) → Standing setup status s → AllOutside s ks → Standing setup status (run s ks)
   unfolding run

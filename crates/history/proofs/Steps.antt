@@ -17,7 +17,7 @@ use Rattle.terminal.specs.declared.events.Event.the-variants.{Mark, Word}
 use Rattle.terminal.specs.declared.events.Happened.{Happened}
 use Rattle.history.specs.Calls.{Call, setUp, event, host, clearSelftest, restart, isAccepted, isSetUp, isRefused, step, run}
 use Rattle.history.specs.Demands.{ShowsNothing, RefusalsKeep}
-use Rattle.history.proofs.Tests.{true≢, and-left}
+use Rattle.history.proofs.Tests.{false≢, false≢, and-left}
 
 -- ---- an event
 module _ (s : State) (e : Event) (receive transmit : List ℕ) where
@@ -63,9 +63,9 @@ shown s e receive transmit h =
         → eqb (cond a (cond b (cond d 0 6) 5) 1) 0 ≡ true
         → Shown s e receive transmit
     go true p true q true l z = record { tables = p; ranged = q; ordered = l }
-    go true p true q false l z = true≢ (sym z)
-    go true p false q d l z = true≢ (sym z)
-    go false p b q d l z = true≢ (sym z)
+    go true p true q false l z = false≢ z
+    go true p false q d l z = false≢ z
+    go false p b q d l z = false≢ z
 
 pub accepts : (s : State) (e : Event) (receive transmit : List ℕ) → Shown s e receive transmit → isAccepted s e receive transmit ≡ true
 unfolding eventRefusal
@@ -90,9 +90,9 @@ pub refusal-keeps : (s : State) (k : Call) → isRefused s k ≡ true → step s
 unfolding step
 refusal-keeps s (setUp address receive transmit) h = rw (not-true (isSetUp address receive transmit) h)
 refusal-keeps s (event e receive transmit) h = refused-stays s e receive transmit (not-true (isAccepted s e receive transmit) h)
-refusal-keeps s (host setting) h = true≢ (sym h)
-refusal-keeps s clearSelftest h = true≢ (sym h)
-refusal-keeps s restart h = true≢ (sym h)
+refusal-keeps s (host setting) h = false≢ h
+refusal-keeps s clearSelftest h = false≢ h
+refusal-keeps s restart h = false≢ h
 
 shows-nothing : (s : State) (k : Call) → isRefused s k ≡ true → ShowsNothing s k
 shows-nothing s (setUp address receive transmit) h = tt

@@ -6,6 +6,9 @@ use mathlib.Core.Bool.{Bool, true, false, cond, _&&_, _||_, true≢false}
 pub true≢ : {X : Type 0} → true ≡ false → X
 true≢ h = absurd (true≢false h)
 
+pub false≢ : {X : Type 0} → false ≡ true → X
+false≢ h = true≢ (sym h)
+
 -- a choice has what both sides have, each where its test goes that way
 pub cond-cases : {A : Type 0} (P : A → Type 0) (b : Bool) {x y : A} → (b ≡ true → P x) → (b ≡ false → P y) → P (cond b x y)
 cond-cases P true p q = p refl

@@ -1,5 +1,5 @@
 -- A message on its way to its answer: what calls that may come leave as it is, and how a data word moves it on. Assumes nothing.
-use mathlib.Core.Path.{_≡_, refl, sym, ap, _∙_}
+use mathlib.Core.Path.{_≡_, refl, ap, _∙_}
 use Prim.Native.Nat.{ℕ, _+_, _-_, _≤_}
 use mathlib.Core.Bool.{Bool, true, false, _&&_}
 use mathlib.Core.List.{List, _∷_}
@@ -20,7 +20,7 @@ use Rattle.terminal.specs.declared.events.Event.{Event}
 use Rattle.terminal.specs.declared.events.Event.the-variants.{Mark, Word}
 use Rattle.history.specs.Calls.{Call, setUp, event, host, clearSelftest, restart, isAccepted, isRefused, step}
 use Rattle.history.specs.Courses.{isHarmless, mayCome, Course, between, word}
-use Rattle.history.proofs.Tests.{true≢, cond-cases, and-right, or-cases}
+use Rattle.history.proofs.Tests.{false≢, false≢, cond-cases, and-right, or-cases}
 use Rattle.history.proofs.Steps.{stepped, refused-stays, refusal-keeps, not-earlier}
 
 -- ---- the time of the last event
@@ -69,7 +69,7 @@ time-grows s bus k may =
     (λ harmless. go k harmless)
   where
     go : (k : Call) → isHarmless (s .setup .address) bus k ≡ true → s .time .0 ≤ step s k .time .0
-    go (setUp address receive transmit) h = true≢ (sym h)
+    go (setUp address receive transmit) h = false≢ h
     go (event e receive transmit) h = by (isAccepted s e receive transmit) refl
       where
         by : (b : Bool) → isAccepted s e receive transmit ≡ b → s .time .0 ≤ step s (event e receive transmit) .time .0
@@ -77,7 +77,7 @@ time-grows s bus k may =
         by false bad = rw (refused-stays s e receive transmit bad) (omega arith)
     go (host setting) h = unfold step in omega arith
     go clearSelftest h = unfold step in omega arith
-    go restart h = true≢ (sym h)
+    go restart h = false≢ h
 
 -- ---- while a word is to come, and will come in time, nothing before it is late
 

@@ -28,10 +28,11 @@ use Rattle.terminal.specs.declared.events.Event.the-variants.{Mark, Word}
 use Rattle.terminal.specs.declared.events.Happened.{Happened}
 use Rattle.history.specs.Calls.{Call, setUp, event, host, clearSelftest, restart, isAccepted, isSetUp, step, answerIn}
 use Rattle.history.specs.Courses.{NextWord, isHarmless, mayCome}
-use Rattle.history.proofs.Tests.{true≢, and-false, or-cases}
+use Rattle.history.proofs.Tests.{false≢, false≢, and-false, or-cases}
 use Rattle.history.proofs.Steps.{accepted, stepped, refused, refused-stays, refusal-keeps}
 use Rattle.history.proofs.Passing.{still}
 use Rattle.history.proofs.Marks.{passed-over}
+use Rattle.history.proofs.Phases.{counting-under-way}
 use Rattle.history.proofs.Times.{spaced-most}
 
 -- the terminal as the command left it, but for the host's parts, the self-test request, the time and the message, which is now m
@@ -132,12 +133,12 @@ module _ (begun : State) (m : Message) (s : State) (way : Way begun m s) (bus : 
         ap (λ (h : Happened). h .answer) (refused s e receive transmit bad),
       )
   call-keeps (setUp address receive transmit) may in-time =
-      (rw (refusal-keeps s (setUp address receive transmit) (or-cases (not (isSetUp address receive transmit)) false may (λ h. h) (λ h. true≢ (sym h)))) way, refl)
+      (rw (refusal-keeps s (setUp address receive transmit) (or-cases (not (isSetUp address receive transmit)) false may (λ h. h) (λ h. false≢ h))) way, refl)
   call-keeps (host setting) may in-time =
       (record { setup = way .setup; held = way .held; message = way .message; sending = way .sending }, refl)
   call-keeps clearSelftest may in-time =
       (record { setup = way .setup; held = way .held; message = way .message; sending = way .sending }, refl)
-  call-keeps restart may in-time = true≢ (sym may)
+  call-keeps restart may in-time = false≢ may
 
 -- ---- a data word moves it on
 
@@ -159,8 +160,8 @@ rule5-data : (p : Phase) (s : State) (r : WordRecord) → isCounting p ≡ true 
     → isNextData (s .message) r ≡ true
     → nextWord p s r ≡ withMessage s (s .held) (stagedOf (s .message) r)
 unfolding nextWord nextData
-rule5-data Idle s r counts sync awaits next = true≢ (sym counts)
-rule5-data (Pledged address) s r counts sync awaits next = true≢ (sym counts)
+rule5-data Idle s r counts sync awaits next = false≢ counts
+rule5-data (Pledged address) s r counts sync awaits next = false≢ counts
 rule5-data Data s r counts sync awaits next = rw (awaits, next)
 rule5-data First s r counts sync awaits next = rw (data-not-second (s .setup .address) (s .message) r sync, awaits, next)
 
@@ -170,12 +171,6 @@ rules-data : (s : State) (r : WordRecord) → isSending (s .sending) (r .bus) (r
     → rules3to6 s r ≡ nextWord (s .message .phase) s r
 unfolding rules3to6 rule5
 rules-data s r quiet foreign on = rw (quiet, foreign, on)
-
-pub counting-under-way : (p : Phase) → isCounting p ≡ true → isUnderWay p ≡ true
-counting-under-way Idle h = h
-counting-under-way First h = refl
-counting-under-way (Pledged address) h = refl
-counting-under-way Data h = refl
 
 -- one more word
 pub staged-gathered : {bus command latest : ℕ} {words : List ℕ} {m : Message} → Gathered bus command latest words m → (r : WordRecord)

@@ -26,7 +26,7 @@ use Rattle.history.specs.Calls.{event, isAccepted, isRefused, step, run}
 use Rattle.history.specs.Courses.{isOutside}
 use Rattle.history.specs.States.{isNextWord, isBadWord, hasBadWord, marksFault}
 use Rattle.history.specs.Demands.{composing, AnswersWith, NoWipe}
-use Rattle.history.proofs.Tests.{true≢, and-left, and-right, or-false, or-cases}
+use Rattle.history.proofs.Tests.{false≢, true≢, false≢, and-left, and-right, or-false, or-cases}
 use Rattle.history.proofs.Steps.{stepped}
 use Rattle.history.proofs.Passing.{still, passed-under-way}
 use Rattle.history.proofs.Begun.{own-command}
@@ -39,7 +39,7 @@ use Rattle.history.proofs.Answered.{answered}
 faulty-marked : (s : State) → isExempt (s .setup .address) (s .message .command .0) ≡ false
     → Standing (s .setup) (withFlag MessageError (s .held .status .0)) (faultyOf s)
 unfolding faultyOf
-faulty-marked s plain = record { same = refl; holds = rw plain; passing = λ h. true≢ (sym h) }
+faulty-marked s plain = record { same = refl; holds = rw plain; passing = λ h. false≢ h }
 
 -- a message that is late is not due
 late-not-due : (m : Message) (t : ℕ) → isLate m t ≡ true → isDue m t ≡ false
@@ -81,7 +81,7 @@ bad-marked s r plain bad =
 word-marked : (s : State) (e : Event) (transmit : List ℕ) → isExempt (s .setup .address) (s .message .command .0) ≡ false
     → hasBadWord (passedOf s (timeOf e) transmit) e ≡ true
     → Standing (s .setup) (withFlag MessageError (s .held .status .0)) (takenOf (passedOf s (timeOf e) transmit) e)
-word-marked s (Mark t) transmit plain bad = true≢ (sym bad)
+word-marked s (Mark t) transmit plain bad = false≢ bad
 word-marked s (Word r) transmit plain bad =
     let t : ℕ = r .time .0 in
     let on : isOn (passedOf s t transmit .message) (r .bus) ≡ true = search (and-left, and-right, bad) in

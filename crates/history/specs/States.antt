@@ -11,6 +11,7 @@ use Rattle.terminal.specs.Commands.{isOwn, isExempt, awaitedOf}
 use Rattle.terminal.specs.Messages.{isUnderWay, isOn, awaitsData, isLate, isNextData, isSecond, isStatusFrom}
 use Rattle.terminal.specs.Rules.{rule3}
 use Rattle.terminal.specs.Events.{timeOf, passedOf}
+use Rattle.terminal.specs.declared.states.Held.{Held}
 use Rattle.terminal.specs.declared.states.Phase.{Phase}
 use Rattle.terminal.specs.declared.states.Phase.the-variants.{Idle, First, Pledged, Data}
 use Rattle.terminal.specs.declared.states.Message.{Message}
@@ -49,28 +50,44 @@ marksFault s e transmit =
 abbrev pub isTo : ℕ → ℕ → Bool
 isTo own word = eqb (addressOf word) own || isBroadcast word
 
--- a message under way
-pub record Waiting (s : State) (m : Message) : Type 0 where
+-- before the first data word of a message, while a second command word may come or a status is awaited
+abbrev pub isOpening : Phase → Bool
+isOpening Idle = false
+isOpening First = true
+isOpening (Pledged address) = true
+isOpening Data = false
+
+-- what is held, by a terminal of that own address
+pub record Holding (own : ℕ) (h : Held) : Type 0 where
+  -- the stored status has the own address and none of the bits 02E2: "instrumentation 0200 (always 0), .. reserved 00E0 (0), .. bus control
+  -- acceptance 0002 (always 0, house)"
+  pub status : addressOf (h .status .0) ≡ own
+  pub spare : hasNoOther (h .status .0) ≡ true
+  -- the last command is an own one or 0
+  pub command : (eqb (h .command .0) 0 || isTo own (h .command .0)) ≡ true
+  -- one transmitter for each bus
+  pub shut : length (h .shut) ≡ 2
+
+-- a message under way, of a terminal of that own address whose last event had that time
+pub record Waiting (own now : ℕ) (m : Message) : Type 0 where
   -- "bus (1: 0 is A, 1 is B)"
   pub bus : m .bus ≤ 1
   -- begun by an own command
-  pub command : isTo (s .setup .address) (m .command .0) ≡ true
+  pub command : isTo own (m .command .0) ≡ true
   -- no word of it is later than the last event
-  pub last : m .last .0 ≤ s .time .0
+  pub last : m .last .0 ≤ now
   -- no more words than are awaited, and never more than 32
   pub got : m .got ≤ awaitedOf (m .command .0)
   pub most : awaitedOf (m .command .0) ≤ 32
   pub words : length (m .words) ≡ 32
   -- a second command word, and the status after it, come "directly after a receive command that is no mode command"
-  pub first : m .phase ≡ First → m .got ≡ 0
-  pub pledged : (address : ℕ) → m .phase ≡ Pledged address → (m .got ≡ 0) × (isTransmit (m .command .0) ≡ false) × (isMode (m .command .0) ≡ false)
-  -- an own command ends any sending
-  pub alone : s .sending .on ≡ false
+  pub directly : isOpening (m .phase) ≡ true → m .got ≡ 0
+  pub receives : isOpening (m .phase) ≡ true → (isTransmit (m .command .0) ≡ false) × (isMode (m .command .0) ≡ false)
 
 -- a sending: "due time D up to, not including, D + 200 times the words sent", a status word and at most 32 data words
-pub record Window (s : State) (w : Sending) : Type 0 where
+pub record Window (now : ℕ) (w : Sending) : Type 0 where
   pub bus : w .bus ≤ 1
-  pub from : w .from .0 ≤ s .time .0
+  pub from : w .from .0 ≤ now
   pub least : 1 ≤ w .words
   pub most : w .words ≤ 33
 
@@ -81,13 +98,8 @@ pub record Sound (s : State) : Type 0 where
   pub transmit : length (s .setup .transmit) ≡ 32
   -- "0 to 2^48 - 1"
   pub time : onClock (s .time .0) ≡ true
-  -- the stored status has the own address and none of the bits 02E2: "instrumentation 0200 (always 0), .. reserved 00E0 (0), .. bus control
-  -- acceptance 0002 (always 0, house)"
-  pub status : addressOf (s .held .status .0) ≡ s .setup .address
-  pub spare : hasNoOther (s .held .status .0) ≡ true
-  -- the last command is an own one or 0
-  pub command : (eqb (s .held .command .0) 0 || isTo (s .setup .address) (s .held .command .0)) ≡ true
-  -- one transmitter for each bus
-  pub shut : length (s .held .shut) ≡ 2
-  pub message : isUnderWay (s .message .phase) ≡ true → Waiting s (s .message)
-  pub sending : s .sending .on ≡ true → Window s (s .sending)
+  pub held : Holding (s .setup .address) (s .held)
+  pub message : isUnderWay (s .message .phase) ≡ true → Waiting (s .setup .address) (s .time .0) (s .message)
+  pub sending : s .sending .on ≡ true → Window (s .time .0) (s .sending)
+  -- an own command ends any sending
+  pub alone : isUnderWay (s .message .phase) ≡ true → s .sending .on ≡ false
