@@ -15,14 +15,13 @@ use Rattle.terminal.specs.Events.{passedOf}
 use Rattle.terminal.specs.declared.states.Held.{Held}
 use Rattle.terminal.specs.declared.states.Phase.{Phase}
 use Rattle.terminal.specs.declared.states.Sending.{Sending}
-use Rattle.terminal.specs.declared.states.Setup.{Setup}
 use Rattle.terminal.specs.declared.states.Terminal.{Terminal as State}
 use Rattle.terminal.specs.declared.events.Event.the-variants.{Word}
 use Rattle.history.specs.Calls.{event, step}
 use Rattle.history.specs.Courses.{Command}
 use Rattle.history.proofs.Tests.{cond-cases}
 use Rattle.history.proofs.Steps.{stepped}
-use Rattle.history.proofs.Passing.{passed-setup, passed-sending, passed-shut}
+use Rattle.history.proofs.Passing.{passed-own, passed-sending, passed-shut}
 use Rattle.history.proofs.Ways.{Way, Gathered}
 
 -- rule 4 shuts and opens none
@@ -60,7 +59,7 @@ module _ (s : State) (r : WordRecord) (receive transmit : List ℕ) (k : Command
       let quiet : isSending (x .sending) (r .bus) (r .time .0) ≡ false =
       ap (λ (y : Sending). isSending y (r .bus) (r .time .0)) (passed-sending s (r .time .0) transmit) ∙ k .quiet in
       let own : isOwn (x .setup .address) r ≡ true =
-      ap (λ (y : Setup). isOwn (y .address) r) (passed-setup s (r .time .0) transmit) ∙ own-command (s .setup .address) r (k .valid) (k .sync) (k .own) in
+      passed-own s (r .time .0) transmit r ∙ own-command (s .setup .address) r (k .valid) (k .sync) (k .own) in
       stepped s (Word r) receive transmit (k .accepted) ∙ rules-own x r quiet own
 
   pub begun-way : Way (step s (event (Word r) receive transmit)) (begunOf r) (step s (event (Word r) receive transmit))

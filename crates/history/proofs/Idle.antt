@@ -9,7 +9,6 @@ use Rattle.terminal.specs.Messages.{isOn, isWhole, isDue}
 use Rattle.terminal.specs.Settling.{noAnswer}
 use Rattle.terminal.specs.Events.{timeOf, setUpOf, passedOf, takenOf, eventOf}
 use Rattle.terminal.specs.declared.states.Message.{Message}
-use Rattle.terminal.specs.declared.states.Setup.{Setup}
 use Rattle.terminal.specs.declared.states.Terminal.{Terminal as State}
 use Rattle.terminal.specs.declared.events.Event.{Event}
 use Rattle.terminal.specs.declared.events.Event.the-variants.{Mark, Word}
@@ -19,7 +18,7 @@ use Rattle.history.specs.Calls.{Call, setUp, event, host, clearSelftest,
 use Rattle.history.specs.Courses.{Silent, NoOwn}
 use Rattle.history.proofs.Tests.{cond-cases}
 use Rattle.history.proofs.Steps.{stepped, refused, refused-stays}
-use Rattle.history.proofs.Passing.{passed-setup, passed-message}
+use Rattle.history.proofs.Passing.{passed-own, passed-message}
 use Rattle.history.proofs.Marks.{passed-over}
 use Rattle.history.proofs.Ways.{still-answer}
 
@@ -44,7 +43,7 @@ event-idle s e receive transmit ok foreign idle = ap (λ (x : State). x .message
         let x : State = passedOf s (r .time .0) transmit in
         let not-own : isOwn (s .setup .address) r ≡ false = rw ok at foreign in
         let not-own1 : isOwn (x .setup .address) r ≡ false =
-        ap (λ (y : Setup). isOwn (y .address) r) (passed-setup s (r .time .0) transmit) ∙ not-own in
+        passed-own s (r .time .0) transmit r ∙ not-own in
         let off : isOn (x .message) (r .bus) ≡ false = ap (λ (m : Message). isOn m (r .bus)) idle ∙ (unfold isOn in refl) in
         ap (λ (y : State). y .message) (passed-over x r not-own1 off) ∙ idle
 

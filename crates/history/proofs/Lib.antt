@@ -16,3 +16,5 @@ pub mod Holdings
 pub mod Waitings
 pub mod Reached
 pub mod Pasts
+pub mod Replacing
+pub mod Witnessed

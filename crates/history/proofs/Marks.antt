@@ -1,5 +1,5 @@
 -- A record that is nothing of the terminal's own acts as a time mark. Assumes nothing.
-use mathlib.Core.Path.{_≡_, refl, sym, ap, _∙_}
+use mathlib.Core.Path.{_≡_, refl, sym, _∙_}
 use mathlib.Core.Bool.{false}
 use Rattle.records.specs.declared.forms.WordRecord.{WordRecord}
 use Rattle.terminal.specs.Commands.{isOwn}
@@ -7,12 +7,11 @@ use Rattle.terminal.specs.Messages.{isOn, isSending}
 use Rattle.terminal.specs.Rules.{cutsSending, rules3to6}
 use Rattle.terminal.specs.Events.{passedOf, happensOf}
 use Rattle.terminal.specs.declared.states.Message.{Message}
-use Rattle.terminal.specs.declared.states.Setup.{Setup}
 use Rattle.terminal.specs.declared.states.Terminal.{Terminal as State}
 use Rattle.terminal.specs.declared.events.Event.the-variants.{Mark, Word}
 use Rattle.history.specs.Demands.{AsAMark, AsAMarkOnceSettled}
 use Rattle.history.proofs.Tests.{cond-same}
-use Rattle.history.proofs.Passing.{passed-setup, passed-message}
+use Rattle.history.proofs.Passing.{passed-own, passed-message}
 use Rattle.history.proofs.Steps.{accepted, accepted-table, mark-accepted}
 
 -- ---- rule 6
@@ -33,7 +32,7 @@ as-a-mark-once-settled s r receive transmit ok foreign off =
     let ok-mark = mark-accepted s r receive transmit ok in
     let s1 : State = passedOf s (r .time .0) transmit in
     let foreign1 : isOwn (s1 .setup .address) r ≡ false =
-    ap (λ (x : Setup). isOwn (x .address) r) (passed-setup s (r .time .0) transmit) ∙ foreign in (
+    passed-own s (r .time .0) transmit r ∙ foreign in (
       rw (accepted s (Word r) receive transmit ok, accepted s (Mark (r .time)) receive transmit ok-mark, passed-over s1 r foreign1 off, cuts-nothing s1 r foreign1),
       accepted-table s (Word r) receive transmit ok ∙ sym (accepted-table s (Mark (r .time)) receive transmit ok-mark),
     )

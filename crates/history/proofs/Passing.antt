@@ -3,8 +3,9 @@ use mathlib.Core.Path.{_≡_, refl}
 use Prim.Native.Nat.{ℕ}
 use mathlib.Core.Bool.{true, false}
 use mathlib.Core.List.{List}
+use Rattle.records.specs.declared.forms.WordRecord.{WordRecord}
 use Rattle.terminal.specs.States.{noMessage}
-use Rattle.terminal.specs.Commands.{isExempt}
+use Rattle.terminal.specs.Commands.{isOwn, isExempt}
 use Rattle.terminal.specs.Messages.{isUnderWay, awaitsData, isDue, isLate}
 use Rattle.terminal.specs.Rules.{settledOf, rule1, faultyOf, rule2}
 use Rattle.terminal.specs.Events.{atTime, passedOf}
@@ -24,6 +25,10 @@ passed-setup s t transmit =
 
     first : rule1 s t transmit .setup ≡ s .setup
     first = cond-cases same (isDue (s .message) t) (λ due. refl) (λ not-due. refl)
+
+-- so an own command is one before and after them
+pub passed-own : (s : State) (t : ℕ) (transmit : List ℕ) (r : WordRecord) → isOwn (passedOf s t transmit .setup .address) r ≡ isOwn (s .setup .address) r
+passed-own s t transmit r = rw (passed-setup s t transmit)
 
 -- they begin no message: what holds of none and of that under way holds after them
 pub passed-message : (P : Message → Type 0) → P noMessage → (s : State) (t : ℕ) (transmit : List ℕ) → P (s .message) → P (passedOf s t transmit .message)

@@ -1,19 +1,20 @@
 -- Histories worked out: one that meets every premise of `answered`, and for each premise one that breaks it and loses the answer. "Address 5, all
 -- legal, fresh", as on the bench cards. Assumes nothing.
 use mathlib.Core.Path.{_≡_}
-use Prim.Native.Nat.{ℕ, _-_, _^_}
+use Prim.Native.Nat.{ℕ, _+_, _-_, _^_, _≤_}
 use mathlib.Core.Bool.{Bool, true, false, not, _&&_}
 use mathlib.Core.List.{List, [], _∷_, _++_}
-use lib.ListN.{replicate}
-use Rattle.words.specs.Words.{parityOf, commandSync}
+use lib.ListN.{length, replicate}
+use Rattle.words.specs.Words.{dueDistance, parityOf, commandSync}
 use Rattle.records.specs.declared.forms.WordRecord.{WordRecord}
-use Rattle.terminal.specs.Events.{eventOf}
+use Rattle.terminal.specs.Commands.{awaitedOf}
+use Rattle.terminal.specs.Events.{timeOf, eventOf}
 use Rattle.terminal.specs.Cards.{mark, heard, command, dataWord, badWord, zeros}
 use Rattle.terminal.specs.declared.states.Terminal.{Terminal as State}
 use Rattle.terminal.specs.declared.answers.Answer.{Answer}
 use Rattle.terminal.specs.declared.events.Event.{Event}
 use Rattle.terminal.specs.declared.events.Event.the-variants.{Word}
-use Rattle.history.specs.Calls.{Call, setUp, event, host, clearSelftest, restart, service, busy, vector, step, run, afterPast}
+use Rattle.history.specs.Calls.{Call, setUp, event, host, clearSelftest, restart, service, busy, vector, isAccepted, step, run, afterPast}
 use Rattle.history.specs.Courses.{Command, Course}
 
 -- an event with full tables
@@ -70,11 +71,22 @@ begun = step (benchAfter past) (event (Word asked) zeros zeros)
 unfoldable pub given : Answer
 given = record { given = true; bus = 0; due = record { 0 = 1660 }; status = record { 0 = 0x2900 }; count = 0; words = replicate 32 0 }
 
--- It is such a command and such a course, and the first event after the due time, here an own command on bus B, carries the answer.
+unfoldable pub sent : List ℕ
+sent = 0x0007 ∷ 0x0009 ∷ []
+
+-- the first event at or after the due time: an own command on bus B
+unfoldable pub first : Event
+first = command 1 9000 0x2C02
+
+-- Every premise is met, and the event carries the answer.
 pub record Met : Type 0 where
+  pub address : benchAfter past .setup .address ≤ 30
   pub asks : Command (benchAfter past) asked zeros zeros
-  pub runs : Course 0 begun 1000 (0x0007 ∷ 0x0009 ∷ []) noise 1400
-  pub answer : eventOf (run begun noise) (command 1 9000 0x2C02) zeros zeros .answer ≡ given
+  pub count : length sent ≡ awaitedOf (asked .word)
+  pub runs : Course 0 begun 1000 sent noise 1400
+  pub accepted : isAccepted (run begun noise) first zeros zeros ≡ true
+  pub then : 1400 + dueDistance ≤ timeOf first
+  pub answer : eventOf (run begun noise) first zeros zeros .answer ≡ given
 
 -- ---- for each premise, a history that breaks it alone
 
@@ -109,11 +121,13 @@ losses =
     -- its transmitter is shut: 2C04 on B
     ∷ (hears (command 1 100 0x2C04) ∷ hears (mark 360) ∷ message)
     -- a second command word, to 6
-    ∷ (hears (command 0 1000 0x2842) ∷ hears (command 0 1200 0x3442) ∷ [])
-    -- a data word is missing, not accepted, not valid, not spaced
+    ∷ (hears (command 0 1000 0x2842) ∷ hears (command 0 1195 0x3442) ∷ hears (dataWord 0 1200 0x0007) ∷ hears (dataWord 0 1400 0x0009) ∷ [])
+    -- a data word is missing, not accepted, not valid, with command sync, on the other bus, not spaced
     ∷ opening
     ∷ (opening ++ (event (dataWord 0 1400 0x0009) zeros [] ∷ []))
     ∷ (opening ++ (hears (badWord 0 1400 0x0009) ∷ []))
+    ∷ (opening ++ (hears (command 0 1400 0x0842) ∷ []))
+    ∷ (opening ++ (hears (dataWord 1 1400 0x0009) ∷ []))
     ∷ (opening ++ (hears (dataWord 0 1406 0x0009) ∷ []))
     -- something more comes on the bus before the answer is due
     ∷ (message ++ (hears (dataWord 0 1600 0x0001) ∷ []))
@@ -123,4 +137,6 @@ losses =
     -- a restart by the host, a set-up
     ∷ (message ++ (restart ∷ []))
     ∷ (message ++ (setUp 5 allLegal allLegal ∷ []))
+    -- not the first event at or after the due time
+    ∷ (message ++ (hears (mark 1660) ∷ []))
     ∷ []

@@ -14,6 +14,11 @@ use Rattle.terminal.specs.Events.{eventRefusal, passedOf, happensOf, eve
 use Rattle.terminal.specs.Cards.{mark, heard, command, dataWord, badWord, sameWords, isAnswer, zeros, steps, benchTerminal, cardHolds, allHold, onWords, begun, cards}
 use Rattle.terminal.specs.Theorems.{CardsHold}
 
+-- every definition that the course of a message runs through
+unfoldable pub whole : Unit {0}
+unfolding onesIn isOdd parityOf wordsOf isMode isSpaced plusOf hasFlag withFlag isValid rows found listingOf allows isAllowed maskAllows isOwn isExempt maskOf isHeldIllegal isLegal awaitedOf isOn awaitsData isWhole isDue isLate isSending isNextData isSecond isStatusFrom settledStatus modeWords legalReply replyOf storesData storedOf otherBus isWithheld answerOf sendingOf effectOf heldAfter rule1Answer rule1Receive settledOf rule1 faultyOf rule2 notedStatus notedCommand firstPhase begunOf rule4 cutsSending stagedOf movedOf nextData nextWord rule5 rules3to6 eventRefusal passedOf happensOf eventOf eventReceive mark heard command dataWord badWord zeros
+whole = tt
+
 pub cards-hold : CardsHold
-unfolding onesIn isOdd parityOf wordsOf isMode isSpaced plusOf hasFlag withFlag isValid rows found listingOf allows isAllowed maskAllows wordCards words.holds isOwn isExempt maskOf isHeldIllegal isLegal awaitedOf isOn awaitsData isWhole isDue isLate isSending isNextData isSecond isStatusFrom settledStatus modeWords legalReply replyOf storesData storedOf otherBus isWithheld answerOf sendingOf effectOf heldAfter rule1Answer rule1Receive settledOf rule1 faultyOf rule2 notedStatus notedCommand firstPhase begunOf rule4 cutsSending stagedOf movedOf nextData nextWord rule5 rules3to6 eventRefusal passedOf happensOf eventOf eventReceive mark heard command dataWord badWord sameWords isAnswer zeros steps benchTerminal cardHolds allHold onWords begun cards
+unfolding whole wordCards words.holds sameWords isAnswer steps benchTerminal cardHolds allHold onWords begun cards
 cards-hold = tt
