@@ -8,12 +8,13 @@ use lib.ListN.{length, take, drop}
 use lib.Seq.{paste, take-all}
 use borrow.Author.Tests.{le-leb, ne-eqb, not-true}
 use Rattle.words.specs.Words.{dueDistance, addressOf, wordsOf, isTransmit, isMode, isBroadcast}
+use Rattle.terminal.specs.States.{noMessage}
 use Rattle.terminal.specs.Commands.{awaitedOf}
-use Rattle.terminal.specs.Messages.{isWhole, isDue}
+use Rattle.terminal.specs.Messages.{isUnderWay, isWhole, isDue}
 use Rattle.terminal.specs.Settling.{isShut, settledStatus, firstPlace, modeWords, legalReply, replyOf, storesData, storedOf, isWithheld, answerOf}
 use Rattle.terminal.specs.Effects.{withSelftest}
 use Rattle.terminal.specs.Rules.{statusNow, replyNow, rule1Answer, rule1Receive}
-use Rattle.terminal.specs.Events.{timeOf, happensOf, eventOf, eventReceive, withHost}
+use Rattle.terminal.specs.Events.{timeOf, passedOf, happensOf, eventOf, eventReceive, withHost}
 use Rattle.terminal.specs.declared.states.Held.{Held}
 use Rattle.terminal.specs.declared.states.Setup.{Setup}
 use Rattle.terminal.specs.declared.states.Message.{Message}
@@ -24,10 +25,11 @@ use Rattle.terminal.specs.declared.events.Event.{Event}
 use Rattle.terminal.specs.declared.events.Event.the-variants.{Word}
 use Rattle.history.specs.Calls.{event, isAccepted, step, run}
 use Rattle.history.specs.Demands.{composing, dueAnswer, Answered}
-use Rattle.history.proofs.Tests.{and-left, and-right}
+use Rattle.history.proofs.Tests.{false≢, and-left, and-right}
 use Rattle.history.proofs.Steps.{accepted, accepted-table}
 use Rattle.history.proofs.Passing.{due-ends}
-use Rattle.history.proofs.Idle.{event-idle, idle-silent}
+use Rattle.history.proofs.Idle.{event-idle, idle-run, idle-answer}
+use Rattle.history.proofs.Later.{event-since, answers-later}
 use Rattle.history.proofs.Ways.{Way, Gathered}
 use Rattle.history.proofs.Carrying.{Arrived, carry}
 use Rattle.history.proofs.Begun.{begun-gathered, begun-way, begun-on}
@@ -150,15 +152,19 @@ answered s few r receive transmit k words all ks end course e receive' transmit'
     let on : isShut (begun .held) (r .bus) ≡ false = begun-on s r receive transmit k in
     let answer : eventOf later e receive' transmit' .answer ≡ dueAnswer (composing begun ks) r end transmit' =
     carries begun (r .bus) (r .word) end words later (way .way) (way .gathered) all own on e receive' transmit' ok then in
+    let next : State = step later (event e receive' transmit') in
+    let ended : passedOf later (timeOf e) transmit' .message ≡ noMessage =
+    due-ends later (timeOf e) transmit'
+    (due begun (r .bus) (r .word) end words later (way .way) (way .gathered) all own on e receive' transmit' ok then) in
     record {
       answer = answer;
       gap = rw answer (omega arith);
       table = stores begun (r .bus) (r .word) end words later (way .way) (way .gathered) all own on e receive' transmit' ok then;
       before = way .silent;
-      after = λ foreign more none.
-          idle-silent (step later (event e receive' transmit')) more
-          (event-idle later e receive' transmit' ok foreign
-          (due-ends later (timeOf e) transmit'
-          (due begun (r .bus) (r .word) end words later (way .way) (way .gathered) all own on e receive' transmit' ok then)))
+      after = λ foreign more none k.
+          idle-answer (run next more) k (idle-run next more (event-idle later e receive' transmit' ok foreign ended) none);
+      later = λ more none k.
+          answers-later (timeOf e) next more k
+          (event-since (timeOf e) later e receive' transmit' ok (omega arith) (λ on. false≢ (ap (λ (m : Message). isUnderWay (m .phase)) (sym ended) ∙ on)))
           none;
     }

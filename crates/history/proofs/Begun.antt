@@ -78,4 +78,4 @@ module _ (s : State) (r : WordRecord) (receive transmit : List ℕ) (k : Command
       let x : State = passedOf s (r .time .0) transmit in
       let same : step s (event (Word r) receive transmit) .held .shut ≡ rule1 s (r .time .0) transmit .held .shut =
       ap (λ (y : State). y .held .shut) begun-step ∙ noted-shut (x .setup .address) (x .held) (r .word) ∙ passed-shut s (r .time .0) transmit in
-      rw same (k .on)
+      rw same (k .transmitter)

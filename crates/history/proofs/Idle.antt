@@ -14,8 +14,8 @@ use Rattle.terminal.specs.declared.events.Event.{Event}
 use Rattle.terminal.specs.declared.events.Event.the-variants.{Mark, Word}
 use Rattle.terminal.specs.declared.events.Happened.{Happened}
 use Rattle.terminal.specs.declared.setups.SetUp.{SetUp}
-use Rattle.history.specs.Calls.{Call, setUp, event, host, clearSelftest, restart, isAccepted, isSetUp, step, answerIn, bringsOwn}
-use Rattle.history.specs.Courses.{Silent, NoOwn}
+use Rattle.history.specs.Calls.{Call, setUp, event, host, clearSelftest, restart, isAccepted, isSetUp, step, run, answerIn, bringsOwn}
+use Rattle.history.specs.Courses.{NoOwn}
 use Rattle.history.proofs.Tests.{cond-cases}
 use Rattle.history.proofs.Steps.{stepped, refused, refused-stays}
 use Rattle.history.proofs.Passing.{passed-own, passed-message}
@@ -47,32 +47,36 @@ event-idle s e receive transmit ok foreign idle = ap (λ (x : State). x .message
         let off : isOn (x .message) (r .bus) ≡ false = ap (λ (m : Message). isOn m (r .bus)) idle ∙ (unfold isOn in refl) in
         ap (λ (y : State). y .message) (passed-over x r not-own1 off) ∙ idle
 
--- a call that brings no own command begins no message and carries no answer
-idle-call : (s : State) (k : Call) → s .message ≡ noMessage → bringsOwn s k ≡ false → (step s k .message ≡ noMessage) × (answerIn s k ≡ noAnswer)
+-- a call that brings no own command begins no message
+idle-call : (s : State) (k : Call) → s .message ≡ noMessage → bringsOwn s k ≡ false → step s k .message ≡ noMessage
 unfolding step
 idle-call s (setUp address receive transmit) idle foreign =
-    (cond-cases (λ (x : State). x .message ≡ noMessage) (isSetUp address receive transmit) (λ set. set-up-idle address receive transmit) (λ bad. idle), refl)
+    cond-cases (λ (x : State). x .message ≡ noMessage) (isSetUp address receive transmit) (λ set. set-up-idle address receive transmit) (λ bad. idle)
 idle-call s (event e receive transmit) idle foreign = go (isAccepted s e receive transmit) refl
   where
     none : Message → Type 0
     none m = m ≡ noMessage
 
-    go : (b : Bool) → isAccepted s e receive transmit ≡ b
-        → (step s (event e receive transmit) .message ≡ noMessage) × (eventOf s e receive transmit .answer ≡ noAnswer)
-    go true ok = (
-      event-idle s e receive transmit ok foreign (passed-message none refl s (timeOf e) transmit idle),
-      still-answer s e receive transmit ok (ap (λ (m : Message). isDue m (timeOf e)) idle ∙ (unfold isDue isWhole in refl)),
-    )
-    go false bad = (
-      ap (λ (x : State). x .message) (refused-stays s e receive transmit bad) ∙ idle,
-      ap (λ (h : Happened). h .answer) (refused s e receive transmit bad),
-    )
-idle-call s (host setting) idle foreign = (idle, refl)
-idle-call s clearSelftest idle foreign = (idle, refl)
-idle-call s restart idle foreign = (refl, refl)
+    go : (b : Bool) → isAccepted s e receive transmit ≡ b → step s (event e receive transmit) .message ≡ noMessage
+    go true ok = event-idle s e receive transmit ok foreign (passed-message none refl s (timeOf e) transmit idle)
+    go false bad = ap (λ (x : State). x .message) (refused-stays s e receive transmit bad) ∙ idle
+idle-call s (host setting) idle foreign = idle
+idle-call s clearSelftest idle foreign = idle
+idle-call s restart idle foreign = refl
 
-pub idle-silent : (s : State) (ks : List Call) → s .message ≡ noMessage → NoOwn s ks → Silent s ks
-idle-silent s [] idle foreign = tt
-idle-silent s (k ∷ ks) idle foreign =
-    let now = idle-call s k idle (foreign .0) in
-    (now .1, idle-silent (step s k) ks (now .0) (foreign .1))
+pub idle-run : (s : State) (ks : List Call) → s .message ≡ noMessage → NoOwn s ks → run s ks .message ≡ noMessage
+unfolding run
+idle-run s [] idle foreign = idle
+idle-run s (k ∷ ks) idle foreign = idle-run (step s k) ks (idle-call s k idle (foreign .0)) (foreign .1)
+
+-- and no call then carries an answer
+pub idle-answer : (s : State) (k : Call) → s .message ≡ noMessage → answerIn s k ≡ noAnswer
+idle-answer s (setUp address receive transmit) idle = refl
+idle-answer s (event e receive transmit) idle = go (isAccepted s e receive transmit) refl
+  where
+    go : (b : Bool) → isAccepted s e receive transmit ≡ b → eventOf s e receive transmit .answer ≡ noAnswer
+    go true ok = still-answer s e receive transmit ok (ap (λ (m : Message). isDue m (timeOf e)) idle ∙ (unfold isDue isWhole in refl))
+    go false bad = ap (λ (h : Happened). h .answer) (refused s e receive transmit bad)
+idle-answer s (host setting) idle = refl
+idle-answer s clearSelftest idle = refl
+idle-answer s restart idle = refl

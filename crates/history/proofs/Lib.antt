@@ -6,6 +6,7 @@ pub mod Marks
 pub mod Times
 pub mod Ways
 pub mod Idle
+pub mod Later
 pub mod Carrying
 pub mod Begun
 pub mod Answered

@@ -22,7 +22,7 @@ use Rattle.terminal.specs.declared.events.Event.{Event}
 use Rattle.terminal.specs.declared.events.Event.the-variants.{Mark, Word}
 use Rattle.terminal.specs.declared.events.Happened.{Happened}
 use Rattle.history.specs.Calls.{event, isAccepted, bringsOwn}
-use Rattle.history.specs.Demands.{Begins, Replaced, Cut, CutByOwnAlone}
+use Rattle.history.specs.Demands.{Begins, Replaced, Cut, CutExactly, CutByOwnAlone}
 use Rattle.history.proofs.Tests.{false≢, cond-cases, and-left, and-right, and-false}
 use Rattle.history.proofs.Passing.{passed-own, passed-under-way, still}
 use Rattle.history.proofs.Steps.{accepted, accepted-table}
@@ -118,6 +118,10 @@ cut s r receive transmit ok own sending = (
   rw (accepted s (Word r) receive transmit ok, passed-own s (r .time .0) transmit r, own, sending),
   own-begins s r receive transmit ok own (sending-on-one (passedOf s (r .time .0) transmit .sending) (r .bus) (r .time .0) sending),
 )
+
+pub cut-exactly : CutExactly
+unfolding happensOf cutsSending
+cut-exactly s r receive transmit ok own = rw (accepted s (Word r) receive transmit ok, passed-own s (r .time .0) transmit r, own)
 
 -- ---- what cuts a sending
 

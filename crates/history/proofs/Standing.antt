@@ -22,7 +22,7 @@ use Rattle.terminal.specs.declared.states.Terminal.{Terminal as State}
 use Rattle.terminal.specs.declared.events.Event.{Event}
 use Rattle.terminal.specs.declared.events.Event.the-variants.{Mark, Word}
 use Rattle.history.specs.Calls.{Call, setUp, event, host, clearSelftest, restart, isAccepted, isSetUp, isRefused, step, run}
-use Rattle.history.specs.Courses.{isOutside, AllOutside}
+use Rattle.history.specs.Courses.{leavesFault, AllLeaveFault}
 use Rattle.history.proofs.Tests.{false≢, false≢, cond-cases, and-left, and-right, or-cases}
 use Rattle.history.proofs.Phases.{due-under-way, late-under-way}
 use Rattle.history.proofs.Steps.{stepped, refused-stays, refusal-keeps}
@@ -146,14 +146,14 @@ module _ {setup : Setup} {status : ℕ} where
       (λ off. st)))
 
   pub taken-stands : (s : State) (e : Event) (receive transmit : List ℕ) → Standing setup status s
-      → isOutside (setup .address) (event e receive transmit) ≡ true
+      → leavesFault (setup .address) (event e receive transmit) ≡ true
       → Standing setup status (takenOf s e)
   taken-stands s (Mark t) receive transmit st outside = st
   taken-stands s (Word r) receive transmit st outside = rules-stand s r st (rw (st .same) outside)
 
   -- ---- a call, and any calls
 
-  pub call-stands : (s : State) (k : Call) → Standing setup status s → (isRefused s k || isOutside (s .setup .address) k) ≡ true → Standing setup status (step s k)
+  pub call-stands : (s : State) (k : Call) → Standing setup status s → (isRefused s k || leavesFault (s .setup .address) k) ≡ true → Standing setup status (step s k)
   unfolding step
   call-stands s (event e receive transmit) st outside = go (isAccepted s e receive transmit) refl
     where
@@ -168,7 +168,7 @@ module _ {setup : Setup} {status : ℕ} where
   call-stands s clearSelftest st outside = record { same = st .same; holds = st .holds; passing = st .passing }
   call-stands s restart st outside = false≢ outside
 
-  pub run-stands : (s : State) (ks : List Call) → Standing setup status s → AllOutside s ks → Standing setup status (run s ks)
+  pub run-stands : (s : State) (ks : List Call) → Standing setup status s → AllLeaveFault s ks → Standing setup status (run s ks)
   unfolding run
   run-stands s [] st outside = st
   run-stands s (k ∷ ks) st outside = run-stands (step s k) ks (call-stands s k st (outside .0)) (outside .1)

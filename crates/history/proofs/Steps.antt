@@ -10,13 +10,13 @@ use Rattle.words.specs.Words.{onClock}
 use Rattle.records.specs.Records.{inRange}
 use Rattle.records.specs.declared.forms.WordRecord.{WordRecord}
 use Rattle.terminal.specs.Rules.{rule1Receive}
-use Rattle.terminal.specs.Events.{timeOf, isInRange, eventRefusal, passedOf, takenOf, happensOf, refusedOf, eventOf, eventReceive}
+use Rattle.terminal.specs.Events.{setUpOf, timeOf, isInRange, eventRefusal, passedOf, takenOf, happensOf, refusedOf, eventOf, eventReceive}
 use Rattle.terminal.specs.declared.states.Terminal.{Terminal as State}
 use Rattle.terminal.specs.declared.events.Event.{Event}
 use Rattle.terminal.specs.declared.events.Event.the-variants.{Mark, Word}
 use Rattle.terminal.specs.declared.events.Happened.{Happened}
 use Rattle.history.specs.Calls.{Call, setUp, event, host, clearSelftest, restart, isAccepted, isSetUp, isRefused, step, run}
-use Rattle.history.specs.Demands.{ShowsNothing, RefusalsKeep}
+use Rattle.history.specs.Demands.{ShowsNumberAlone, RefusalsKeep}
 use Rattle.history.proofs.Tests.{false≢, false≢, and-left}
 
 -- ---- an event
@@ -94,14 +94,15 @@ refusal-keeps s (host setting) h = false≢ h
 refusal-keeps s clearSelftest h = false≢ h
 refusal-keeps s restart h = false≢ h
 
-shows-nothing : (s : State) (k : Call) → isRefused s k ≡ true → ShowsNothing s k
-shows-nothing s (setUp address receive transmit) h = tt
-shows-nothing s (event e receive transmit) h =
+shows-number-alone : (s : State) (k : Call) → isRefused s k ≡ true → ShowsNumberAlone s k
+unfolding setUpOf
+shows-number-alone s (setUp address receive transmit) h = rw (not-true (isSetUp address receive transmit) h)
+shows-number-alone s (event e receive transmit) h =
     let bad = not-true (isAccepted s e receive transmit) h in
     (refused s e receive transmit bad, refused-table s e receive transmit bad)
-shows-nothing s (host setting) h = tt
-shows-nothing s clearSelftest h = tt
-shows-nothing s restart h = tt
+shows-number-alone s (host setting) h = tt
+shows-number-alone s clearSelftest h = tt
+shows-number-alone s restart h = tt
 
 pub run-append : (s : State) (past future : List Call) → run s (past ++ future) ≡ run (run s past) future
 unfolding run
@@ -112,5 +113,5 @@ pub refusals-keep : RefusalsKeep
 unfolding run
 refusals-keep s past k future h = (
   run-append s past (k ∷ future) ∙ ap (λ (x : State). run x future) (refusal-keeps (run s past) k h) ∙ sym (run-append s past future),
-  shows-nothing (run s past) k h,
+  shows-number-alone (run s past) k h,
 )

@@ -23,7 +23,7 @@ use Rattle.terminal.specs.declared.answers.Answer.{Answer}
 use Rattle.terminal.specs.declared.events.Event.{Event}
 use Rattle.terminal.specs.declared.events.Event.the-variants.{Mark, Word}
 use Rattle.history.specs.Calls.{event, isAccepted, isRefused, step, run}
-use Rattle.history.specs.Courses.{isOutside}
+use Rattle.history.specs.Courses.{leavesFault}
 use Rattle.history.specs.States.{isNextWord, isBadWord, hasBadWord, marksFault}
 use Rattle.history.specs.Demands.{composing, AnswersWith, NoWipe}
 use Rattle.history.proofs.Tests.{false≢, true≢, false≢, and-left, and-right, or-false, or-cases}
@@ -91,7 +91,7 @@ word-marked s (Word r) transmit plain bad =
 
 -- by either
 event-marks : (s : State) (e : Event) (receive transmit : List ℕ) → isAccepted s e receive transmit ≡ true → marksFault s e transmit ≡ true
-    → isOutside (s .setup .address) (event e receive transmit) ≡ true
+    → leavesFault (s .setup .address) (event e receive transmit) ≡ true
     → Standing (s .setup) (withFlag MessageError (s .held .status .0)) (step s (event e receive transmit))
 event-marks s e receive transmit ok marks outside =
     let x : State = passedOf s (timeOf e) transmit in
@@ -110,7 +110,7 @@ standing-reported : {setup : Setup} {status : ℕ} (s : State) → Standing setu
 standing-reported s st few r receive transmit k exempt ks end course e receive' transmit' ok then =
     let begun : State = step s (event (Word r) receive transmit) in
     let own : isOwn (s .setup .address) r ≡ true = own-command (s .setup .address) r (k .valid) (k .sync) (k .own) in
-    let outside : (isRefused s (event (Word r) receive transmit) || isOutside (s .setup .address) (event (Word r) receive transmit)) ≡ true =
+    let outside : (isRefused s (event (Word r) receive transmit) || leavesFault (s .setup .address) (event (Word r) receive transmit)) ≡ true =
     rw (k .accepted, own, exempt) in
     let next = call-stands s (event (Word r) receive transmit) st outside in
     let none : 0 ≡ awaitedOf (r .word) = sym (exempt-awaits (s .setup .address) (r .word) exempt) in

@@ -5,25 +5,25 @@ use Rattle.terminal.specs.Events.{setUpRefusal, setUpOf}
 use Rattle.terminal.proofs.Bench.{whole}
 use Rattle.history.specs.Calls.{step, run}
 use Rattle.history.specs.Courses.{over, between, word}
-use Rattle.history.specs.Witnesses.{hears, allLegal, benchAfter, past, asked, noise, sent, given, first, answersAt1660, allLost, opening, message, losses}
+use Rattle.history.specs.Witnesses.{hears, allLegal, benchAfter, past, asked, noise, sent, given, first, answersTo, answersAt1660, allLost, opening, message, losses, atAll, eventLost}
 use Rattle.history.specs.Demands.{Witness, Needed}
 
 -- every definition that a history runs through
 unfoldable histories : Unit {0}
-unfolding whole setUpRefusal setUpOf step run hears allLegal benchAfter past asked noise sent given first answersAt1660 allLost opening message losses
+unfolding whole setUpRefusal setUpOf step run hears allLegal benchAfter past asked noise sent given first answersTo answersAt1660 allLost opening message losses atAll eventLost
 histories = tt
 
 -- the plain message is answered, and no message with a broken premise is
 pub needed : Needed
 unfolding histories
-needed = (tt, tt)
+needed = (tt, tt, tt)
 
 -- the command, each call of the noise in its place with the two data words among them, and the answer
 pub witness : Witness
 unfolding histories
 witness = record {
   address = lit≤ tt;
-  asks = record { accepted = refl; valid = refl; sync = refl; own = refl; quiet = refl; on = refl };
+  asks = record { accepted = refl; valid = refl; sync = refl; own = refl; quiet = refl; transmitter = refl };
   count = refl;
   runs =
       between refl (λ e. refl)

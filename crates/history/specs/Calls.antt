@@ -23,8 +23,9 @@ pub data Setting : Type 0 where
   vector : ℕ → Setting
   bit : ℕ → Setting
 
--- Every call that gives another terminal: set-up with any address and any two lists of masks; an event with any receive and any transmit table;
--- "Host calls set the flags .., vector and BIT words, clear the self-test request, or restart." The reads give none.
+-- The calls that give another terminal: set-up with any address and any two lists of masks; an event with any receive and any transmit table;
+-- "Host calls set the flags .., vector and BIT words, clear the self-test request, or restart." The reads give none. `Terminal::fresh`, which judges
+-- no address, is no call here: `answered` holds of what it gives for an address up to 30.
 pub data Call : Type 0 where
   setUp : ℕ → List ℕ → List ℕ → Call
   event : Event → List ℕ → List ℕ → Call
@@ -58,7 +59,7 @@ hostOf h (fault on) = withFault h on
 hostOf h (vector word) = withVector h word
 hostOf h (bit word) = withBit h word
 
--- A refused set-up leaves the terminal that there was: "A refusal gives its number and nothing else".
+-- A refused set-up hands back a terminal that its caller must not use (DECISIONS 18): here the terminal that there was goes on.
 unfoldable pub step : State → Call → State
 step s (setUp address receive transmit) = cond (isSetUp address receive transmit) (setUpOf address receive transmit .terminal) s
 step s (event e receive transmit) = eventOf s e receive transmit .terminal
@@ -83,6 +84,14 @@ answerIn s (event e receive transmit) = eventOf s e receive transmit .answer
 answerIn s (host setting) = noAnswer
 answerIn s clearSelftest = noAnswer
 answerIn s restart = noAnswer
+
+-- it is an accepted set-up
+abbrev pub setsUp : Call → Bool
+setsUp (setUp address receive transmit) = isSetUp address receive transmit
+setsUp (event e receive transmit) = false
+setsUp (host setting) = false
+setsUp clearSelftest = false
+setsUp restart = false
 
 -- it brings an accepted "valid command to it or to all terminals"
 abbrev pub bringsOwn : State → Call → Bool

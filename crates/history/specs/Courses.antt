@@ -13,7 +13,7 @@ use Rattle.terminal.specs.Rules.{rule1}
 use Rattle.terminal.specs.Events.{timeOf}
 use Rattle.terminal.specs.declared.states.Terminal.{Terminal as State}
 use Rattle.terminal.specs.declared.events.Event.the-variants.{Mark, Word}
-use Rattle.history.specs.Calls.{Call, setUp, event, host, clearSelftest, restart, isAccepted, isRefused, step, answerIn, bringsOwn}
+use Rattle.history.specs.Calls.{Call, setUp, event, host, clearSelftest, restart, isAccepted, isRefused, step, answerIn, setsUp, bringsOwn}
 
 -- ---- the command
 
@@ -28,7 +28,7 @@ pub record Command (s : State) (r : WordRecord) (receive transmit : List ℕ) : 
   -- "on a bus where, once anything already due is settled, it is not sending"
   pub quiet : isSending (rule1 s (r .time .0) transmit .sending) (r .bus) (r .time .0) ≡ false
   -- "and its transmitter is on,"
-  pub on : isShut (rule1 s (r .time .0) transmit .held) (r .bus) ≡ false
+  pub transmitter : isShut (rule1 s (r .time .0) transmit .held) (r .bus) ≡ false
 
 -- ---- the course of calls after it
 
@@ -42,7 +42,7 @@ pub record NextWord (s : State) (bus last : ℕ) (r : WordRecord) (receive trans
   pub spaced : isSpaced last (r .time .0) ≡ true
 
 -- "Let nothing more come on that bus before the answer is due, no valid command to it or to all terminals on the other, and no restart by the
--- host before the answer is carried." A set-up is taken for a restart (DECISIONS 20).
+-- host before the answer is carried." A set-up is taken for a restart (DECISIONS 25).
 abbrev pub isHarmless : ℕ → ℕ → Call → Bool
 isHarmless own bus (setUp address receive transmit) = false
 isHarmless own bus (event (Mark t) receive transmit) = true
@@ -55,7 +55,7 @@ isHarmless own bus restart = false
 abbrev pub mayCome : State → ℕ → Call → Bool
 mayCome s bus k = isRefused s k || isHarmless (s .setup .address) bus k
 
--- the call is no event accepted at or after that time
+-- the call is no event of that time or later
 abbrev pub isEarlier : ℕ → Call → Bool
 isEarlier due (event e receive transmit) = ltb (timeOf e) due
 isEarlier due (setUp address receive transmit) = true
@@ -63,11 +63,13 @@ isEarlier due (host setting) = true
 isEarlier due clearSelftest = true
 isEarlier due restart = true
 
+-- the call is no event accepted at or after that time
 abbrev pub isBefore : State → ℕ → Call → Bool
 isBefore s due k = isRefused s k || isEarlier due k
 
 -- `Course bus s last words calls end`: from the terminal s on, after a word on the bus at the time `last`, the calls bring these data words, the
--- last word at the time `end`, and between them calls that may come; once all words have come, no call is an event at or after the due time.
+-- last word at the time `end`, and between them calls that may come; once all words have come, no call is an event accepted at or after the due
+-- time.
 pub data Course (bus : ℕ) : State → ℕ → List ℕ → List Call → ℕ → Type 0 where
   over : {s : State} {last : ℕ} → Course bus s last [] [] last
   between : {s : State} {last end : ℕ} {words : List ℕ} {k : Call} {ks : List Call}
@@ -90,17 +92,22 @@ abbrev pub NoOwn : State → List Call → Type 0
 NoOwn s [] = Unit {0}
 NoOwn s (k ∷ ks) = (bringsOwn s k ≡ false) × NoOwn (step s k) ks
 
+-- calls without an accepted set-up
+abbrev pub NoSetUp : State → List Call → Type 0
+NoSetUp s [] = Unit {0}
+NoSetUp s (k ∷ ks) = (setsUp k ≡ false) × NoSetUp (step s k) ks
+
 -- ---- calls that leave a fault marked
 
--- "any calls that bring no own command other than the two exempt ones and no restart": time marks, any other records, host calls.
-abbrev pub isOutside : ℕ → Call → Bool
-isOutside own (setUp address receive transmit) = false
-isOutside own (event (Mark t) receive transmit) = true
-isOutside own (event (Word r) receive transmit) = not (isOwn own r) || isExempt own (r .word)
-isOutside own (host setting) = true
-isOutside own clearSelftest = true
-isOutside own restart = false
+-- Time marks, records that are no own command, the two exempt commands, host calls; no restart and no set-up (DECISIONS 25).
+abbrev pub leavesFault : ℕ → Call → Bool
+leavesFault own (setUp address receive transmit) = false
+leavesFault own (event (Mark t) receive transmit) = true
+leavesFault own (event (Word r) receive transmit) = not (isOwn own r) || isExempt own (r .word)
+leavesFault own (host setting) = true
+leavesFault own clearSelftest = true
+leavesFault own restart = false
 
-abbrev pub AllOutside : State → List Call → Type 0
-AllOutside s [] = Unit {0}
-AllOutside s (k ∷ ks) = ((isRefused s k || isOutside (s .setup .address) k) ≡ true) × AllOutside (step s k) ks
+abbrev pub AllLeaveFault : State → List Call → Type 0
+AllLeaveFault s [] = Unit {0}
+AllLeaveFault s (k ∷ ks) = ((isRefused s k || leavesFault (s .setup .address) k) ≡ true) × AllLeaveFault (step s k) ks

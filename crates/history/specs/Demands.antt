@@ -1,6 +1,6 @@
 -- THE FIRST FILE TO READ. Demand 3 of the user, clause by clause, and what stands beside it: no word on one bus wipes out a fault of the other,
 -- refusals change nothing, what an own command does to what is under way, what can be reached, and a history that meets every premise. A
--- statement is a type; its proof has the name above it and stands in proofs/. `Calls` and `Courses` say the words. Assumes nothing.
+-- statement is a type; its proof has the name above it and stands in proofs/. `Calls`, `Courses`, `States` and `Witnesses` say the words. Assumes nothing.
 use mathlib.Core.Path.{_≡_}
 use Prim.Native.Nat.{ℕ, _+_, _≤_}
 use mathlib.Core.Bool.{true, false, cond, _&&_}
@@ -16,15 +16,15 @@ use Rattle.terminal.specs.Commands.{isOwn, isExempt, awaitedOf}
 use Rattle.terminal.specs.Messages.{isUnderWay, isOn, isSending}
 use Rattle.terminal.specs.Settling.{otherBus, settledStatus, firstPlace, replyOf, storesData, noAnswer}
 use Rattle.terminal.specs.Rules.{begunOf, rule3}
-use Rattle.terminal.specs.Events.{timeOf, eventRefusal, passedOf, refusedOf, eventOf, eventReceive, withHost}
+use Rattle.terminal.specs.Events.{timeOf, setUpRefusal, setUpOf, eventRefusal, passedOf, refusedOf, eventOf, eventReceive, withHost}
 use Rattle.terminal.specs.declared.states.Terminal.{Terminal as State}
 use Rattle.terminal.specs.declared.answers.Answer.{Answer}
 use Rattle.terminal.specs.declared.events.Event.{Event}
 use Rattle.terminal.specs.declared.events.Event.the-variants.{Mark, Word}
-use Rattle.history.specs.Calls.{Call, setUp, event, host, clearSelftest, restart, isAccepted, isRefused, step, run, afterPast, bringsOwn}
-use Rattle.history.specs.Courses.{Command, Course, Silent, NoOwn, isOutside, AllOutside}
+use Rattle.history.specs.Calls.{Call, setUp, event, host, clearSelftest, restart, isAccepted, isRefused, step, run, afterPast, answerIn, bringsOwn}
+use Rattle.history.specs.Courses.{Command, Course, Silent, NoOwn, NoSetUp, leavesFault, AllLeaveFault}
 use Rattle.history.specs.States.{marksFault, Sound}
-use Rattle.history.specs.Witnesses.{Met, allLost, answersAt1660, message, losses}
+use Rattle.history.specs.Witnesses.{Met, allLost, answersAt1660, message, losses, eventLost}
 
 -- ==== answered: "After any calls at all, take an accepted, valid command .. Then the first event accepted at or after the due time carries
 -- exactly one answer"
@@ -61,13 +61,20 @@ pub record Carried (begun : State) (r : WordRecord) (words : List ℕ) (ks : Lis
   pub table : eventReceive (run begun ks) e receive transmit ≡ dueTable (composing begun ks) r words receive
   -- "exactly one": no call before it carries an answer
   pub before : Silent begun ks
-  -- and none after it, until another valid command to it or to all terminals has come
+  -- and none after it, until another valid command to it or to all terminals has come: whatever calls follow, and whatever call then
   pub after : bringsOwn (run begun ks) (event e receive transmit) ≡ false
       → (more : List Call)
       → NoOwn (step (run begun ks) (event e receive transmit)) more
-      → Silent (step (run begun ks) (event e receive transmit)) more
+      → (k : Call)
+      → answerIn (run (step (run begun ks) (event e receive transmit)) more) k ≡ noAnswer
+  -- and no call ever after carries it again, where e brings such a command too: any later answer is due more than this one
+  pub later : (more : List Call)
+      → NoSetUp (step (run begun ks) (event e receive transmit)) more
+      → (k : Call)
+      → answerIn (run (step (run begun ks) (event e receive transmit)) more) k .given ≡ true
+      → timeOf e + dueDistance ≤ answerIn (run (step (run begun ks) (event e receive transmit)) more) k .due .0
 
--- of a terminal that is as it is now
+-- of one terminal
 abbrev pub AnsweredFrom : State → Type 0
 AnsweredFrom s =
     -- "take an accepted, valid command to the terminal's own address, .. on a bus where, once anything already due is settled, it is not sending
@@ -124,7 +131,8 @@ pub record Reports (a : Answer) (bus status : ℕ) : Type 0 where
   pub on : a .bus ≡ bus
   pub says : a .status .0 ≡ status
 
--- the next transmit status word or transmit last command, on a bus whose transmitter is on, answers with that status, whatever may come between
+-- the next transmit status word or transmit last command, on a bus whose transmitter is on and on which it is not sending, answers with that
+-- status, whatever may come between
 abbrev pub AnswersWith : State → ℕ → Type 0
 AnswersWith s status =
     (r : WordRecord) (receive transmit : List ℕ) → Command s r receive transmit
@@ -146,40 +154,44 @@ NoWipeFrom s =
     -- an accepted event marks a message faulty, by its time or by its word, on either bus,
     (e : Event) (receive transmit : List ℕ) → isAccepted s e receive transmit ≡ true
     → marksFault s e transmit ≡ true
-    → isOutside (s .setup .address) (event e receive transmit) ≡ true
-    -- then any calls, whatever words come on the other bus, but an own command that is not exempt and a restart:
-    → (ks : List Call) → AllOutside (step s (event e receive transmit)) ks
+    -- and is itself no own command that is not exempt (that one would write the status anew, rule 4);
+    → leavesFault (s .setup .address) (event e receive transmit) ≡ true
+    -- then any calls, whatever words come on the other bus, but an own command that is not exempt and a restart or set-up:
+    → (ks : List Call) → AllLeaveFault (step s (event e receive transmit)) ks
     -- the stored status is that before the fault, with message error
     → Marked (run (step s (event e receive transmit)) ks) (withFlag MessageError (s .held .status .0))
 
+-- no-wipe: of every terminal with "an own address 0 to 30"
 abbrev pub NoWipe : Type 0
 NoWipe = (s : State) → s .setup .address ≤ 30 → NoWipeFrom s
 
+-- no-wipe-after-any-past
 abbrev pub NoWipeAfterAnyPast : Type 0
 NoWipeAfterAnyPast = (address : ℕ) (receive transmit : List ℕ) (past : List Call) → NoWipeFrom (afterPast address receive transmit past)
 
 -- ==== refusals-keep: "A refusal gives the number in our table and changes no state and no lent table or buffer." (demand 1)
 
--- a refused event gives the number and nothing else
-abbrev pub ShowsNothing : State → Call → Type 0
-ShowsNothing s (event e receive transmit) =
+-- a refused call gives the number and nothing else
+abbrev pub ShowsNumberAlone : State → Call → Type 0
+ShowsNumberAlone s (event e receive transmit) =
     (eventOf s e receive transmit ≡ refusedOf s (eventRefusal s e (length receive) (length transmit)))
     × (eventReceive s e receive transmit ≡ receive)
-ShowsNothing s (setUp address receive transmit) = Unit {0}
-ShowsNothing s (host setting) = Unit {0}
-ShowsNothing s clearSelftest = Unit {0}
-ShowsNothing s restart = Unit {0}
+ShowsNumberAlone s (setUp address receive transmit) =
+    setUpOf address receive transmit .refusal .0 ≡ setUpRefusal address (length receive) (length transmit)
+ShowsNumberAlone s (host setting) = Unit {0}
+ShowsNumberAlone s clearSelftest = Unit {0}
+ShowsNumberAlone s restart = Unit {0}
 
 -- the run with it is the run without it, for any past and future
 abbrev pub RefusalsKeep : Type 0
 RefusalsKeep =
     (s : State) (past : List Call) (k : Call) (future : List Call) → isRefused (run s past) k ≡ true
-    → (run s (past ++ (k ∷ future)) ≡ run s (past ++ future)) × ShowsNothing (run s past) k
+    → (run s (past ++ (k ∷ future)) ≡ run s (past ++ future)) × ShowsNumberAlone (run s past) k
 
 -- ==== replaced, cut: "An own command replaces any message under way, and cuts a sending on the other bus; the result says so." "Replacement by
 -- itself marks no fault."
 
--- The terminal after an own command r, from what it was once rules 1 and 2 were done: its message alone is under way, nothing is being sent, and
+-- The terminal after an own command r, from what it was before, rules 1 and 2 done: its message alone is under way, nothing is being sent, and
 -- message error is there only if it was and the command is exempt.
 pub record Begins (passed : State) (r : WordRecord) (after : State) : Type 0 where
   pub message : after .message ≡ begunOf r
@@ -187,7 +199,8 @@ pub record Begins (passed : State) (r : WordRecord) (after : State) : Type 0 whe
   pub fault : hasFlag MessageError (after .held .status .0)
       ≡ (isExempt (passed .setup .address) (r .word) && hasFlag MessageError (passed .held .status .0))
 
--- replaced: a message that is under way, on whichever bus, gets no answer, stores nothing and is no fault
+-- replaced: a message that is still under way once rules 1 and 2 are done, on whichever bus, gets no answer, stores nothing and is no fault (rules 1
+-- and 2 did nothing to it)
 abbrev pub Replaced : Type 0
 Replaced =
     (s : State) (r : WordRecord) (receive transmit : List ℕ) → isAccepted s (Word r) receive transmit ≡ true
@@ -207,7 +220,15 @@ Cut =
     → (eventOf s (Word r) receive transmit .cut ≡ true)
     × Begins (passedOf s (r .time .0) transmit) r (eventOf s (Word r) receive transmit .terminal)
 
--- cut-by-own-alone: nothing else cuts one
+-- cut-exactly: an own command says that it cut a sending exactly where there is one on the other bus;
+abbrev pub CutExactly : Type 0
+CutExactly =
+    (s : State) (r : WordRecord) (receive transmit : List ℕ) → isAccepted s (Word r) receive transmit ≡ true
+    → isOwn (s .setup .address) r ≡ true
+    → eventOf s (Word r) receive transmit .cut
+    ≡ isSending (passedOf s (r .time .0) transmit .sending) (otherBus (r .bus)) (r .time .0)
+
+-- cut-by-own-alone: no other event says so
 abbrev pub CutByOwnAlone : Type 0
 CutByOwnAlone =
     (s : State) (e : Event) (receive transmit : List ℕ) → eventOf s e receive transmit .cut ≡ true → bringsOwn s (event e receive transmit) ≡ true
@@ -220,6 +241,6 @@ Reachable = (address : ℕ) (receive transmit : List ℕ) (past : List Call) →
 abbrev pub Witness : Type 0
 Witness = Met
 
--- needed: a plain message is answered at 1660, and with any one premise broken it is not
+-- needed: a plain message is answered at 1660, and for each premise a message that breaks it is not
 abbrev pub Needed : Type 0
-Needed = T (answersAt1660 message) × T (allLost losses)
+Needed = T (answersAt1660 message) × T (allLost losses) × T eventLost

@@ -34,11 +34,12 @@ abbrev pub isBadWord : State → WordRecord → Bool
 isBadWord s r =
     not (rule3 s r) && not (isOwn (s .setup .address) r) && isOn (s .message) (r .bus) && not (isNextWord (s .message .phase) s r)
 
--- An event marks a fault: by its time, rule 2, or by its word, rule 5; "(not for the two exempt commands)".
+-- an event brings such a word
 abbrev pub hasBadWord : State → Event → Bool
 hasBadWord s (Mark t) = false
 hasBadWord s (Word r) = isBadWord s r
 
+-- An event marks a fault: by its time, rule 2, or by its word, rule 5; "(not for the two exempt commands)".
 abbrev pub marksFault : State → Event → List ℕ → Bool
 marksFault s e transmit =
     not (isExempt (s .setup .address) (s .message .command .0))
@@ -80,7 +81,7 @@ pub record Waiting (own now : ℕ) (m : Message) : Type 0 where
   pub got : m .got ≤ awaitedOf (m .command .0)
   pub most : awaitedOf (m .command .0) ≤ 32
   pub words : length (m .words) ≡ 32
-  -- a second command word, and the status after it, come "directly after a receive command that is no mode command"
+  -- before its first data word: a second command word comes "directly after a receive command that is no mode command", the status after that
   pub directly : isOpening (m .phase) ≡ true → m .got ≡ 0
   pub receives : isOpening (m .phase) ≡ true → (isTransmit (m .command .0) ≡ false) × (isMode (m .command .0) ≡ false)
 

@@ -7,6 +7,7 @@ use mathlib.Core.List.{List, [], _∷_, _++_}
 use lib.ListN.{length, replicate}
 use Rattle.words.specs.Words.{dueDistance, parityOf, commandSync}
 use Rattle.records.specs.declared.forms.WordRecord.{WordRecord}
+use Rattle.terminal.specs.States.{freshOf}
 use Rattle.terminal.specs.Commands.{awaitedOf}
 use Rattle.terminal.specs.Events.{timeOf, eventOf}
 use Rattle.terminal.specs.Cards.{mark, heard, command, dataWord, badWord, zeros}
@@ -29,25 +30,25 @@ benchAfter past = afterPast 5 allLegal allLegal past
 
 -- ---- a history that meets every premise
 
--- A message on A that a bad word makes faulty; transmit status word on B and its answer; host calls, a restart; an event and a set-up refused.
+-- A message on A that a bad word makes faulty; host calls, a restart; an event and a set-up refused; transmit status word on B, whose answer is due
+-- before the command comes and is settled by it.
 unfoldable pub past : List Call
 past =
     hears (command 0 100 0x2842)
     ∷ hears (badWord 0 300 0x0007)
-    ∷ hears (command 1 400 0x2C02)
-    ∷ hears (mark 700)
     ∷ host (busy true)
     ∷ restart
     ∷ host (busy false)
     ∷ hears (mark 5)
     ∷ setUp 31 allLegal allLegal
+    ∷ hears (command 1 400 0x2C02)
     ∷ []
 
--- "2842 on bus A at 1000", two data words to subaddress 2
+-- "2842 at 1000", on bus A: two data words to subaddress 2
 unfoldable pub asked : WordRecord
 asked = record { time = record { 0 = 1000 }; bus = 0; sync = commandSync; faults = 0; word = 0x2842; parity = parityOf 0x2842 }
 
--- Its data words at 1200 and 1400; between them marks, refused calls, words on bus B, host calls.
+-- Its data words at 1200 and 1400; before, between and after them marks, refused calls, words on bus B, host calls.
 unfoldable pub noise : List Call
 noise =
     hears (mark 1100)
@@ -88,11 +89,14 @@ pub record Met : Type 0 where
   pub then : 1400 + dueDistance ≤ timeOf first
   pub answer : eventOf (run begun noise) first zeros zeros .answer ≡ given
 
--- ---- for each premise, a history that breaks it alone
+-- ---- for each premise, a history that breaks it
 
--- A time mark at 1660 carries an answer after these calls, or none.
+-- After these calls the event carries an answer; a time mark at 1660 does.
+unfoldable pub answersTo : State → Event → List ℕ → Bool
+answersTo s e receive = eventOf s e receive zeros .answer .given
+
 unfoldable pub answersAt1660 : List Call → Bool
-answersAt1660 calls = eventOf (benchAfter calls) (mark 1660) zeros zeros .answer .given
+answersAt1660 calls = answersTo (benchAfter calls) (mark 1660) zeros
 
 unfoldable pub allLost : List (List Call) → Bool
 allLost [] = true
@@ -120,15 +124,16 @@ losses =
     ∷ (hears (command 0 600 0x2C42) ∷ message)
     -- its transmitter is shut: 2C04 on B
     ∷ (hears (command 1 100 0x2C04) ∷ hears (mark 360) ∷ message)
-    -- a second command word, to 6
+    -- a second command word, to 6: then a status from 6 is awaited, and a data word is a fault
     ∷ (hears (command 0 1000 0x2842) ∷ hears (command 0 1195 0x3442) ∷ hears (dataWord 0 1200 0x0007) ∷ hears (dataWord 0 1400 0x0009) ∷ [])
-    -- a data word is missing, not accepted, not valid, with command sync, on the other bus, not spaced
+    -- a data word is missing, not accepted, not valid, with command sync, on the other bus, 194 and 206 after the word before
     ∷ opening
     ∷ (opening ++ (event (dataWord 0 1400 0x0009) zeros [] ∷ []))
     ∷ (opening ++ (hears (badWord 0 1400 0x0009) ∷ []))
-    ∷ (opening ++ (hears (command 0 1400 0x0842) ∷ []))
+    ∷ (opening ++ (hears (command 0 1400 0x0009) ∷ []))
     ∷ (opening ++ (hears (dataWord 1 1400 0x0009) ∷ []))
-    ∷ (opening ++ (hears (dataWord 0 1406 0x0009) ∷ []))
+    ∷ (opening ++ (hears (dataWord 0 1394 0x0009) ∷ []))
+    ∷ (hears (command 0 990 0x2842) ∷ hears (dataWord 0 1196 0x0007) ∷ hears (dataWord 0 1396 0x0009) ∷ [])
     -- something more comes on the bus before the answer is due
     ∷ (message ++ (hears (dataWord 0 1600 0x0001) ∷ []))
     -- a valid command to it, or to all terminals, on the other bus
@@ -140,3 +145,14 @@ losses =
     -- not the first event at or after the due time
     ∷ (message ++ (hears (mark 1660) ∷ []))
     ∷ []
+
+-- the event before the due time; the event not accepted, for a table too short; a terminal of address 31, which no set-up gives
+unfoldable pub atAll : State
+atAll = run (freshOf (record { address = 31; receive = allLegal; transmit = allLegal }))
+    (hears (command 0 1000 0xF842) ∷ hears (dataWord 0 1200 0x0007) ∷ hears (dataWord 0 1400 0x0009) ∷ [])
+
+unfoldable pub eventLost : Bool
+eventLost =
+    not (answersTo (benchAfter message) (mark 1659) zeros)
+    && not (answersTo (benchAfter message) (mark 1660) [])
+    && not (answersTo atAll (mark 1660) zeros)
