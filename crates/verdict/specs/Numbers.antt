@@ -1,0 +1,50 @@
+-- Document 01, "Controller verdicts": the numbers of verdicts. Assumes nothing.
+use Prim.Native.Nat.{ℕ}
+
+-- "0 good"
+abbrev pub good : ℕ
+good = 0
+
+-- "1 no response"
+abbrev pub noResponse : ℕ
+noResponse = 1
+
+-- "2 still waiting"
+abbrev pub waiting : ℕ
+waiting = 2
+
+-- "Gap below 40: 3 early."
+abbrev pub early : ℕ
+early = 3
+
+-- "Above 120: 4 late."
+abbrev pub late : ℕ
+late = 4
+
+-- "Not valid, sync 2 included: 5."
+abbrev pub notValid : ℕ
+notValid = 5
+
+-- "Data sync: 6.", of data words "Command sync: 6."
+abbrev pub wrongSync : ℕ
+wrongSync = 6
+
+-- "Wrong address: 7."
+abbrev pub wrongAddress : ℕ
+wrongAddress = 7
+
+-- "Message error: 8."
+abbrev pub messageError : ℕ
+messageError = 8
+
+-- "Busy: 9."
+abbrev pub isBusy : ℕ
+isBusy = 9
+
+-- "not 195 to 205 after the last word, or missing ..: 10"
+abbrev pub badlySpaced : ℕ
+badlySpaced = 10
+
+-- "A record left over: 11."
+abbrev pub leftOver : ℕ
+leftOver = 11

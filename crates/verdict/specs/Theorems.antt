@@ -1,0 +1,72 @@
+-- What holds of verdicts beyond each function's own promise, proved in proofs/ under the name at its side. Assumes nothing.
+use Prim.Native.Nat.{ℕ, _≤_}
+use mathlib.Core.Path.{_≡_}
+use mathlib.Core.Bool.{Bool, true, false}
+use mathlib.Core.List.{List, [], _∷_}
+use mathlib.Core.Logic.{_⊎_}
+use Rattle.words.specs.Words.{sinceOf, gapOf, isSpaced, addressOf, hasFlag, isValid, commandSync, dataSync}
+use Rattle.words.specs.declared.times.Moment.{Moment}
+use Rattle.words.specs.declared.statuses.Flag.the-variants.{MessageError, Busy}
+use Rattle.records.specs.Files.{whole}
+use Rattle.records.specs.declared.forms.WordRecord.{WordRecord}
+use Rattle.verdict.specs.Plans.{expectedOf}
+use Rattle.verdict.specs.Numbers.{good, waiting}
+use Rattle.verdict.specs.Facts.{gapLeast, gapMost, listenedLeast}
+use Rattle.verdict.specs.Verdicts.{returnedOf, verdictOf}
+use Rattle.verdict.specs.declared.plans.Plan.{Plan}
+use Rattle.verdict.specs.declared.plans.Expected.{Expected}
+use Rattle.verdict.specs.declared.plans.Expected.the-variants.{Status, Data}
+
+-- The verdict is one of 0 to 11: verdict-range
+abbrev pub VerdictRange : Type 0
+VerdictRange = (plan : Plan) (rs : List WordRecord) → verdictOf plan rs ≤ 11
+
+-- ---- what good means
+
+-- a status, answered in time, of the right address, without message error and busy but for the mode codes 2 and 18
+pub record GoodStatus (address : ℕ) (unjudged : Bool) (last : ℕ) (r : WordRecord) : Type 0 where
+  pub not-early : gapLeast ≤ gapOf last (r .time .0)
+  pub not-late : gapOf last (r .time .0) ≤ gapMost
+  pub valid : isValid (r .sync) (r .faults) (r .word) (r .parity) ≡ true
+  pub sync : r .sync ≡ commandSync
+  pub from : addressOf (r .word) ≡ address
+  pub flags : unjudged ≡ false → (hasFlag MessageError (r .word) ≡ false) × (hasFlag Busy (r .word) ≡ false)
+
+-- a data word
+pub record GoodData (last : ℕ) (r : WordRecord) : Type 0 where
+  pub spaced : isSpaced last (r .time .0) ≡ true
+  pub valid : isValid (r .sync) (r .faults) (r .word) (r .parity) ≡ true
+  pub sync : r .sync ≡ dataSync
+
+-- the records are those expected, each in its place, none is left over, and the controller listened long enough
+pub data Good (until : ℕ) : List Expected → ℕ → List WordRecord → Type 0 where
+  over : {last : ℕ} → listenedLeast ≤ sinceOf last until → Good until [] last []
+  status : {address : ℕ} {unjudged : Bool} {es : List Expected} {last : ℕ} {r : WordRecord} {rs : List WordRecord}
+      → GoodStatus address unjudged last r
+      → Good until es (r .time .0) rs
+      → Good until (Status address unjudged ∷ es) last (r ∷ rs)
+  word : {es : List Expected} {last : ℕ} {r : WordRecord} {rs : List WordRecord}
+      → GoodData last r
+      → Good until es (r .time .0) rs
+      → Good until (Data ∷ es) last (r ∷ rs)
+
+-- The verdict is good for those records and for no others: good-exactly
+abbrev pub GoodExactly : Type 0
+GoodExactly =
+    (plan : Plan) (rs : List WordRecord)
+    → (verdictOf plan rs ≡ good → Good (plan .until .0) (expectedOf plan) (plan .last .0) rs)
+    × (Good (plan .until .0) (expectedOf plan) (plan .last .0) rs → verdictOf plan rs ≡ good)
+
+-- ---- listening longer
+
+abbrev pub until : Plan → Moment → Plan
+until plan moment =
+    record { commands = plan .commands; first = plan .first; second = plan .second; bus = plan .bus; last = plan .last; until = moment }
+
+-- The same records with a later Q: they are all taken again, and the verdict is the same, or was 2: longer
+abbrev pub Longer : Type 0
+Longer =
+    (plan : Plan) (moment : Moment) → plan .until .0 ≤ moment .0
+    → (bytes : List ℕ) (rs : List WordRecord) → returnedOf plan bytes ≡ whole rs
+    → (returnedOf (until plan moment) bytes ≡ whole rs)
+    × ((verdictOf (until plan moment) rs ≡ verdictOf plan rs) ⊎ (verdictOf plan rs ≡ waiting))
