@@ -1,4 +1,4 @@
--- What C gets: numbers for yes and no, a record as six numbers, and what stays behind a pointer. Assumes nothing.
+-- What C gets: numbers for yes and no, a record and a plan as six numbers, and what stays behind a pointer. Assumes nothing.
 use mathlib.Core.Bool.{Bool, cond}
 use Prim.Native.Nat.{ℕ}
 use Rattle.words.specs.Refusals.{notRefused}
@@ -7,6 +7,7 @@ use Rattle.records.specs.declared.forms.Read.{Read}
 use Rattle.records.specs.declared.forms.Read.the-variants as read
 use Rattle.records.specs.declared.files.Counted.{Counted}
 use Rattle.records.specs.declared.files.Counted.the-variants as counted
+use Rattle.verdict.specs.declared.plans.Plan.{Plan}
 
 -- 1 for yes, else 0.
 unfoldable pub oneIf : Bool → ℕ
@@ -36,3 +37,14 @@ countOr (counted.Refused n) before = before
 abbrev pub countRefusal : Counted → ℕ
 countRefusal (counted.Records n) = notRefused
 countRefusal (counted.Refused n) = n .0
+
+-- The plan of six numbers.
+abbrev pub planOf : ℕ → ℕ → ℕ → ℕ → ℕ → ℕ → Plan
+planOf commands first second bus last until = record {
+  commands = commands;
+  first = record { 0 = first };
+  second = record { 0 = second };
+  bus = bus;
+  last = record { 0 = last };
+  until = record { 0 = until };
+}

@@ -1,15 +1,18 @@
 // What the C bench program calls (01: "must also be callable from the C bench program on numbers and bytes"). Each function wraps one
-// of `words` or `records` and says the same definition. Nothing is allocated, nothing is kept between calls, every call returns for any
+// of `words`, `records` or `verdict` and says the same definition. Nothing is allocated, nothing is kept between calls, every call returns for any
 // argument. A call that may be refused gives the refusal's number, or 0. Types for C: include/buscard.h.
 ghost use mathlib.Core.Path.{_≡_};
-ghost use Rattle.buscard.specs.Answers.{oneIf, recordOf, fieldOr, countOr, countRefusal};
+ghost use Rattle.buscard.specs.Answers.{oneIf, recordOf, fieldOr, countOr, countRefusal, planOf};
 ghost use Rattle.records.specs.Records.{readOf, refusalOf, writeRefusal, writtenOf};
 ghost use Rattle.records.specs.Files.{countedOf};
 ghost use Rattle.records.specs.declared.forms.WordRecord.{WordRecord};
+ghost use Rattle.verdict.specs.Verdicts.{judgedOf, refusalIn, verdictOr};
 ghost use Rattle.words.specs.Words.{parityOf, isValid, isSpaced, commandOf, addressOf, transmitOf, subaddressOf, countOf, wordsOf, isMode, statusOf, flagsOf};
 use records::Counted;
 use records::Read;
 use records::WordRecord;
+use verdict::Judged;
+use verdict::Plan;
 use words::CommandWord;
 use words::Moment;
 use words::Refusal;
@@ -215,5 +218,40 @@ pub extern "C" fn bus_file_check(bytes: &[u8], records: &mut u64) -> u8
             Refusal::NONE.0
         }
         Counted::Refused(refusal) => refusal.0,
+    }
+}
+
+// Gives 0 and the verdict on a plan of one or two commands, or the number of the refusal. last is E, until is Q; of one command the second word
+// is not read.
+// Tables: records is only read; verdict holds 0 to 11, after a refusal it is as before.
+// Refusals: 7, impossible plan; 5, bus, E, Q, Q below E; then record by record 3, 4, 5, 6.
+#[no_mangle]
+pub extern "C" fn bus_verdict_give(
+    commands: u8,
+    first: u16,
+    second: u16,
+    bus: u8,
+    last: u64,
+    until: u64,
+    records: &[u8],
+    verdict: &mut u8,
+) -> u8
+    ensures refusal { λ r. ⌜ r ≡ refusalIn (judgedOf (planOf commands first second bus last until) (now (records .entry))) ⌝ }
+    ensures verdict { λ _. ⌜ now (verdict .exit) ≡ verdictOr (judgedOf (planOf commands first second bus last until) (now (records .entry))) (now (verdict .entry)) ⌝ }
+{
+    let plan = Plan {
+        commands,
+        first: CommandWord(first),
+        second: CommandWord(second),
+        bus,
+        last: Moment(last),
+        until: Moment(until),
+    };
+    match plan.judge(records) {
+        Judged::Given(given) => {
+            *verdict = given.0;
+            Refusal::NONE.0
+        }
+        Judged::Refused(refusal) => refusal.0,
     }
 }
