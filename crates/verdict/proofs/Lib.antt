@@ -1,2 +1,6 @@
 pub mod Places
 pub mod Walks
+pub mod Tests
+pub mod Ranges
+pub mod Longer
+pub mod Goods
