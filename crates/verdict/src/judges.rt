@@ -98,9 +98,9 @@ impl Plan {
     pub fn judge(self, records: &[u8]) -> Judged
         ensures judged { λ r. ⌜ r ≡ judgedOf self (now (records .entry)) ⌝ }
     {
-        let refusal = self.refusal();
-        if refusal.0 != Refusal::NONE.0 {
-            return Judged::Refused(refusal);
+        let own = self.refusal();
+        if own.0 != Refusal::NONE.0 {
+            return Judged::Refused(own);
         }
         self.walk(records)
     }
