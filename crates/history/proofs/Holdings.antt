@@ -58,7 +58,7 @@ module _ (own : ℕ) (small : own ≤ 30) where
 
 module _ (s : State) (small : s .setup .address ≤ 30) (k : Holding (s .setup .address) (s .held)) where
   -- with the status that settling leaves
-  status-settled : (word : ℕ) → Holding (s .setup .address) (withStatus (s .held) (settledStatus s word))
+  pub status-settled : (word : ℕ) → Holding (s .setup .address) (withStatus (s .held) (settledStatus s word))
   unfolding settledStatus
   status-settled word = search (status-either, status-flag) depth 11
 

@@ -1,0 +1,111 @@
+-- The two halves agree: agrees, agrees-after-any-past. Assumes nothing.
+use mathlib.Core.Path.{_≡_, refl, sym, _∙_}
+use Prim.Native.Nat.{ℕ, _+_, _*_, _≤_}
+use mathlib.Core.Bool.{true, false}
+use mathlib.Core.List.{List}
+use native.Mathlib.Omega.{arith}
+use lib.Dec.{eqb}
+use lib.ListN.{length, take, length-take}
+use borrow.Author.Tests.{le-leb, lt-ltb, ltb-true, eqb-true}
+use Rattle.words.specs.Words.{onClock, wordTicks, dueDistance, addressOf, isBroadcast}
+use Rattle.words.specs.Refusals.{notRefused}
+use Rattle.words.specs.declared.times.Moment.{Moment}
+use Rattle.terminal.specs.Commands.{isLegal}
+use Rattle.terminal.specs.Messages.{isDue}
+use Rattle.terminal.specs.Settling.{isShut, isWithheld, answerOf}
+use Rattle.terminal.specs.Rules.{statusNow, replyNow, rule1Answer}
+use Rattle.terminal.specs.declared.states.Terminal.{Terminal as State}
+use Rattle.terminal.specs.declared.answers.Answer.{Answer}
+use Rattle.terminal.specs.declared.answers.Reply.{Reply}
+use Rattle.history.specs.States.{Waiting, Sound}
+use Rattle.history.proofs.Tests.{true≢, or-false, or-cases}
+use Rattle.history.proofs.Phases.{due-under-way}
+use Rattle.history.proofs.Reached.{reachable}
+use Rattle.verdict.specs.Plans.{isPossible, planRefusal, partOf, backOf, expectedOf}
+use Rattle.verdict.specs.Facts.{listenedLeast}
+use Rattle.agreement.specs.Agreement.{planOf, statusHeard, JudgedSo, Agrees, AgreesAfterAnyPast}
+use Rattle.agreement.proofs.Replies.{legal-single, reply-sends}
+use Rattle.agreement.proofs.Heard.{answer-verdict}
+use Rattle.agreement.proofs.Statuses.{address-settled, good-ready}
+
+-- ---- a sound terminal, and what the statement takes for given
+
+module _ (s : State) (sound : Sound s) (t : ℕ) (transmit : List ℕ) (sized : length transmit ≡ 1024) (due : isDue (s .message) t ≡ true)
+    (legal : isLegal (s .setup) (s .message .command .0) ≡ true) (shown : isWithheld s ≡ false)
+    (until : Moment) (clock : onClock (until .0) ≡ true) where
+  -- the command
+  abbrev w : ℕ
+  w = s .message .command .0
+
+  -- its message is under way
+  waits : Waiting (s .setup .address) (s .time .0) (s .message)
+  waits = sound .message (due-under-way (s .message) t due)
+
+  -- it is not to all terminals
+  not-broadcast : isBroadcast w ≡ false
+  unfolding isWithheld
+  not-broadcast = or-false (isBroadcast w) (isShut (s .held) (s .message .bus)) shown (λ one on. one)
+
+  -- so it is to the own address
+  own : addressOf w ≡ s .setup .address
+  own =
+      or-cases (eqb (addressOf w) (s .setup .address)) (isBroadcast w) (waits .command) (eqb-true (addressOf w) (s .setup .address))
+      (λ all. true≢ (sym all ∙ not-broadcast))
+
+  -- the answer, part by part
+  abbrev reply : Reply
+  reply = replyNow s transmit
+
+  abbrev answer : Answer
+  answer = record {
+    given = true;
+    bus = s .message .bus;
+    due = record { 0 = s .message .last .0 + dueDistance };
+    status = record { 0 = statusNow s };
+    count = reply .count;
+    words = reply .words;
+  }
+
+  -- it is the one that is given
+  answer-given : rule1Answer s t transmit ≡ answer
+  unfolding rule1Answer answerOf
+  answer-given = rw (due, shown)
+
+  -- the plan expects a status and the data words of the command
+  plan-expects : expectedOf (planOf s until) ≡ partOf w
+  unfolding expectedOf backOf
+  plan-expects = rw not-broadcast
+
+  -- the plan is possible
+  plan-possible : s .message .last .0 ≤ until .0 → planRefusal (planOf s until) ≡ notRefused
+  unfolding planRefusal isPossible
+  plan-possible later =
+      let waiting = waits in
+      let single = legal-single (s .setup) w legal in
+      let before : onClock (s .message .last .0) ≡ true = omega (arith, lt-ltb, ltb-true) in
+      rw (single, le-leb (s .message .bus) 1 (waiting .bus), before, clock, le-leb (s .message .last .0) (until .0) later)
+
+  -- that answer is judged so
+  answer-judged : answer .due .0 + wordTicks * answer .count + listenedLeast ≤ until .0 → JudgedSo s answer until
+  answer-judged listened =
+      let words : List ℕ = take (reply .count) (reply .words) in
+      let few : length words ≤ reply .count = simp length-take (omega arith) in
+      record {
+        possible = plan-possible (omega arith);
+        verdict = answer-verdict (planOf s until) w plan-expects (s .message .bus) (statusNow s) words (address-settled s w sound ∙ sym own)
+            (omega arith)
+            (λ clear. reply-sends s w transmit sized legal (good-ready s w legal (statusHeard answer) refl clear));
+      }
+
+  -- so the given one is
+  judged : rule1Answer s t transmit .due .0 + wordTicks * rule1Answer s t transmit .count + listenedLeast ≤ until .0
+      → JudgedSo s (rule1Answer s t transmit) until
+  judged listened = rw answer-given (answer-judged (rw answer-given at listened))
+
+pub agrees : Agrees
+agrees = judged
+
+-- ---- any past
+
+pub agrees-after-any-past : AgreesAfterAnyPast
+agrees-after-any-past address receive transmit past = agrees _ (reachable address receive transmit past)

@@ -1,0 +1,4 @@
+pub mod Agrees
+pub mod Heard
+pub mod Replies
+pub mod Statuses
