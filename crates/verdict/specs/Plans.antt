@@ -76,6 +76,10 @@ backOf word = cond (isBroadcast word) [] (partOf word)
 unfoldable pub expectedOf : Plan → List Expected
 expectedOf plan = cond (eqb (plan .commands) 1) (backOf (plan .first .0)) (partOf (plan .second .0) ++ backOf (plan .first .0))
 
+-- how many data words are expected after the first status
+unfoldable pub sentFirst : Plan → ℕ
+sentFirst plan = cond (eqb (plan .commands) 1) (cond (isBroadcast (plan .first .0)) 0 (sentOf (plan .first .0))) (sentOf (plan .second .0))
+
 -- what is expected at a place, counted from 0
 abbrev pub expectedAt : Plan → ℕ → Expected
 expectedAt plan place = getD (expectedOf plan) place Nothing

@@ -67,7 +67,7 @@ fn status_fact(address: u16, unjudged: bool, last: Moment, heard: WordRecord) ->
 }
 
 // Gives what a record shows where a data word is expected.
-fn data_fact(last: Moment, heard: WordRecord) -> Verdict
+pub(crate) fn data_fact(last: Moment, heard: WordRecord) -> Verdict
     ensures fact { λ r. ⌜ r .0 ≡ dataFact (last .0) heard ⌝ }
 {
     if !words::is_spaced(last, heard.time) {

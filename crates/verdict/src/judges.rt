@@ -1,7 +1,9 @@
 // The verdict on a plan: the returned records checked and judged in one walk (01 Controller verdicts). Meaning: specs/Verdicts.antt.
 // Refusals: 7; 5 for bus, E, Q, Q below E; then record by record 3, 4, 5, 6.
 ghost use mathlib.Core.Path.{_≡_};
+ghost use Rattle.verdict.specs.Plans.{sentFirst};
 ghost use Rattle.verdict.specs.Verdicts.{recordRefusal, lookOf, finishOf, refusedOf, returnedOf, decide, judgedOf};
+use crate::facts::data_fact;
 use crate::plans::Plan;
 use crate::verdicts::Verdict;
 use records::Read;
@@ -45,12 +47,16 @@ impl Plan {
         Refusal::OUT_OF_ORDER
     }
 
-    // Gives the fact that is found, or else what the record at this place shows.
-    fn look(self, found: Verdict, place: u64, last: Moment, heard: WordRecord) -> Verdict
+    // Gives the fact that is found, or else what the record at this place shows. Most are data words: for them the plan is not asked again.
+    fn look(self, sent: u64, found: Verdict, place: u64, last: Moment, heard: WordRecord) -> Verdict
+        requires { ⌜ sent ≡ sentFirst self ⌝ }
         ensures found { λ r. ⌜ r .0 ≡ lookOf self (found .0) place (last .0) heard ⌝ }
     {
         if found.0 != Verdict::GOOD.0 {
             return found;
+        }
+        if (place != 0) & (place <= sent) {
+            return data_fact(last, heard);
         }
         let expected = self.expected(place);
         expected.fact(last, heard)
@@ -72,6 +78,7 @@ impl Plan {
     fn walk(self, records: &[u8]) -> Judged
         ensures judged { λ r. ⌜ r ≡ decide self (returnedOf self (now (records .entry))) ⌝ }
     {
+        let sent = self.sent_first();
         let mut at: usize = 0;
         let mut place: u64 = 0;
         let mut last = self.last.0;
@@ -85,7 +92,8 @@ impl Plan {
             if refusal.0 != Refusal::NONE.0 {
                 return Judged::Refused(refusal);
             }
-            found = self.look(Verdict(found), place, Moment(last), heard).0;
+            found = self.look(sent, Verdict(found), place, Moment(last), heard)
+                .0;
             last = heard.time.0;
             place += 1;
             at += RECORD_BYTES;

@@ -2,7 +2,7 @@
 // Refusals: 7, then 5 for bus, E, Q, Q below E.
 ghost use mathlib.Core.Path.{_≡_};
 ghost use lib.ListN.{getD};
-ghost use Rattle.verdict.specs.Plans.{isSingle, isPair, isPossible, planRefusal, isUnjudged, sentBy, sentOf, partOf, backOf, expectedAt};
+ghost use Rattle.verdict.specs.Plans.{isSingle, isPair, isPossible, planRefusal, isUnjudged, sentBy, sentOf, partOf, backOf, sentFirst, expectedAt};
 ghost use Rattle.verdict.specs.declared.plans.Expected.the-variants.{Nothing};
 use words::CommandWord;
 use words::Listing;
@@ -121,6 +121,21 @@ impl Plan {
             return Refusal::NONE;
         }
         Refusal::OUT_OF_RANGE
+    }
+
+    // Gives how many data words are expected after the first status.
+    pub(crate) fn sent_first(self) -> u64
+        ensures count { λ r. ⌜ r ≡ sentFirst self ⌝ }
+    {
+        let first = self.first;
+        let second = self.second;
+        if self.commands != 1 {
+            return sent(second);
+        }
+        if first.is_broadcast() {
+            return 0;
+        }
+        sent(first)
     }
 
     // Gives what is expected at a place, counted from 0.

@@ -10,10 +10,13 @@ use Rattle.verdict.proofs.plans.Plan.walk.Statement.{statement}
 use Rattle.verdict.proofs.plans.Plan.walk.Tie as tie
 
 abbrev Inv-loop : tie.InvT-loop
-Inv-loop self records at₀ place₀ last₀ found₀ at place last found = Left self records (decide self (returnedOf self records)) at place last found
+Inv-loop self records sent at₀ place₀ last₀ found₀ at place last found = Left self records (decide self (returnedOf self records)) at place last found
 
 abbrev μ-loop : tie.MeasureT-loop
-μ-loop self records at₀ place₀ last₀ found₀ at place last found = length records - at
+μ-loop self records sent at₀ place₀ last₀ found₀ at place last found = length records - at
+
+sent-first-requires : tie.Need-sent-first-requires Inv-loop μ-loop
+sent-first-requires c κs = search needs
 
 loop-holds : tie.Need-loop-holds Inv-loop μ-loop
 loop-holds c = start _ _
@@ -89,6 +92,7 @@ walk-spec =
     (tie.spec
     Inv-loop
     μ-loop
+    sent-first-requires
     loop-holds
     sub-read-record
     part-read-record-start
