@@ -1,11 +1,11 @@
 /* Record functions against plain C: the example of document 01, every field at and past its range, and COUNT random and damaged records.
  * With the argument "time": bus_file_check over a file of 1,000,000 records beside a plain C loop that makes the same tests, in one run. */
 #include "buscard.h"
+#include "common.h"
 
 #include <stdio.h>
 #include <stdlib.h>
 #include <string.h>
-#include <time.h>
 
 #define COUNT 1000000
 
@@ -183,21 +183,6 @@ static void small_files(void)
 
 /* ---- random and damaged records */
 
-static uint64_t seed = 1;
-
-static uint64_t draw(void)
-{
-    seed ^= seed << 13;
-    seed ^= seed >> 7;
-    seed ^= seed << 17;
-    return seed;
-}
-
-static unsigned upto(unsigned most)
-{
-    return (unsigned)(draw() % (most + 1));
-}
-
 /* A record whose time has that many high bits cut off; its bus and faults up to a most, which may be out of range. */
 static Fields drawn(unsigned cut, unsigned bus, unsigned faults)
 {
@@ -253,13 +238,6 @@ static void random_records(void)
 }
 
 /* ---- speed */
-
-static double now(void)
-{
-    struct timespec t;
-    clock_gettime(CLOCK_MONOTONIC, &t);
-    return t.tv_sec * 1e9 + t.tv_nsec;
-}
 
 static void speed(void)
 {

@@ -2,11 +2,11 @@
  * with a good course and then with a damaged one.
  * With the argument "time": nanoseconds a plan for the proved function and for plain C, in one run. */
 #include "buscard.h"
+#include "common.h"
 
 #include <stdio.h>
 #include <stdlib.h>
 #include <string.h>
-#include <time.h>
 
 #define COUNT 1000000
 #define ROOM 40
@@ -276,22 +276,6 @@ static void lay(Plan *p)
 }
 
 /* ---- good courses */
-
-/* No expression below draws twice without an order, so that every compiler gives the same plans. */
-static uint64_t seed = 1;
-
-static uint64_t draw(void)
-{
-    seed ^= seed << 13;
-    seed ^= seed >> 7;
-    seed ^= seed << 17;
-    return seed;
-}
-
-static unsigned upto(unsigned most)
-{
-    return (unsigned)(draw() % (most + 1));
-}
 
 /* Often one of the two ends. */
 static unsigned between(unsigned least, unsigned most)
@@ -615,13 +599,6 @@ static void fixed_plans(void)
 #define TURNS 100
 
 static Plan plans[PLANS];
-
-static double now(void)
-{
-    struct timespec t;
-    clock_gettime(CLOCK_MONOTONIC, &t);
-    return t.tv_sec * 1e9 + t.tv_nsec;
-}
 
 /* The sum of all verdicts and refusals. */
 static unsigned long pass(Give *give)

@@ -1,10 +1,10 @@
 /* The word cards of document 01, and every word function against plain C: all 65,536 words, and numbers out of range.
  * With the argument "time": nanoseconds a word for the parity of every word, the proved function and plain C in one run. */
 #include "buscard.h"
+#include "common.h"
 
 #include <stdio.h>
 #include <string.h>
-#include <time.h>
 
 static unsigned long compared, differ;
 
@@ -91,13 +91,6 @@ static void spacing(void)
 }
 
 /* ---- speed */
-
-static double now(void)
-{
-    struct timespec t;
-    clock_gettime(CLOCK_MONOTONIC, &t);
-    return t.tv_sec * 1e9 + t.tv_nsec;
-}
 
 static __attribute__((noinline)) uint8_t plain_valid_call(uint8_t sync, uint8_t faults, uint16_t word, uint8_t parity)
 {
