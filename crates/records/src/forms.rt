@@ -11,7 +11,7 @@ use words::Refusal;
 // "length (2 bytes, always 14)", and the bytes of a record in all.
 const LENGTH: u64 = 14;
 
-pub(crate) const RECORD_BYTES: usize = 16;
+pub const RECORD_BYTES: usize = 16;
 
 // A word as the receiver handed it over. Any numbers fit; `in_range` says which can be written and read.
 pub struct WordRecord {

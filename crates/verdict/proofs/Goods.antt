@@ -1,20 +1,19 @@
 -- The verdict is good for the records that are expected, each in its place, and for no others. Assumes nothing.
-use mathlib.Core.Path.{_≡_, refl, sym, ap, _∙_}
-use Prim.Native.Nat.{ℕ, zero, suc, _+_}
+use mathlib.Core.Path.{_≡_, refl, sym, _∙_}
+use Prim.Native.Nat.{ℕ, zero, suc}
 use mathlib.Core.Bool.{Bool, true, false, not, cond, _||_, or-true, true≢false}
 use mathlib.Core.List.{List, [], _∷_, _++_, append-nil}
 use native.Mathlib.Omega.{arith}
 use lib.Dec.{eqb, ltb, leb}
-use lib.ListN.{getD, drop, replicate}
-use lib.Seq.{getD-drop, drop-drop}
+use lib.ListN.{replicate}
 use borrow.Author.Tests.{ltb-false, le-ltb, eqb-true, eqb-false, eq-eqb, not-false}
 use Rattle.words.specs.Words.{isBroadcast, noResponseDistance, spacingMost, sinceOf, gapOf, isSpaced, addressOf, hasFlag, isValid, commandSync, dataSync}
 use Rattle.words.specs.declared.statuses.Flag.the-variants.{MessageError, Busy}
 use Rattle.records.specs.declared.forms.WordRecord.{WordRecord}
-use Rattle.verdict.specs.Plans.{sentOf, partOf, backOf, expectedOf, expectedAt}
-use Rattle.verdict.specs.Numbers.{good, noResponse, waiting, early, late, notValid, wrongSync, wrongAddress, messageError, isBusy, badlySpaced, leftOver}
+use Rattle.verdict.specs.Plans.{sentOf, partOf, backOf, expectedOf}
+use Rattle.verdict.specs.Numbers.{good, noResponse, waiting, early, late, notValid, wrongSync, wrongAddress, messageError, busy, badlySpaced}
 use Rattle.verdict.specs.Facts.{responseMost, gapLeast, gapMost, listenedLeast, flagFact, statusFact, dataFact, factOf, endOf}
-use Rattle.verdict.specs.Verdicts.{verdictFrom, verdictOf}
+use Rattle.verdict.specs.Verdicts.{verdictOver, verdictOf}
 use Rattle.verdict.specs.Theorems.{GoodStatus, GoodData, Good, over, status, word, GoodExactly}
 use Rattle.verdict.specs.declared.plans.Plan.{Plan}
 use Rattle.verdict.specs.declared.plans.Expected.{Expected}
@@ -52,8 +51,8 @@ flags-good : (r : WordRecord) → flagFact r ≡ good → (hasFlag MessageError 
 unfolding flagFact
 flags-good r h =
     let error = passes (hasFlag MessageError (r .word)) messageError _ (λ e. omega arith) h in
-    let busy = passes (hasFlag Busy (r .word)) isBusy good (λ e. omega arith) (error .1) in
-    (error .0, busy .0)
+    let not-busy = passes (hasFlag Busy (r .word)) busy good (λ e. omega arith) (error .1) in
+    (error .0, not-busy .0)
 
 unjudged-good : (unjudged : Bool) (r : WordRecord) → cond unjudged good (flagFact r) ≡ good
     → unjudged ≡ false
@@ -105,37 +104,6 @@ good-data last r g =
 
 -- ---- over the list of what is expected
 
--- the verdict by the list itself
-unfoldable back : List Expected → ℕ → ℕ → List WordRecord → ℕ
-back [] last until [] = endOf Nothing last until
-back [] last until (r ∷ rs) = leftOver
-back (e ∷ es) last until [] = endOf e last until
-back (e ∷ es) last until (r ∷ rs) = cond (eqb (factOf e last r) good) (back es (r .time .0) until rs) (factOf e last r)
-
--- what is expected at a place is the first of what is left there
-module _ (plan : Plan) (place : ℕ) (l : List Expected) (e : drop place (expectedOf plan) ≡ l) where
-  first-left : expectedAt plan place ≡ getD l 0 Nothing
-  first-left =
-      ap (λ (k : ℕ). getD (expectedOf plan) k Nothing) (omega arith)
-      ∙ sym (getD-drop place (expectedOf plan) 0 Nothing)
-      ∙ ap (λ (x : List Expected). getD x 0 Nothing) e
-
-  rest-left : drop (place + 1) (expectedOf plan) ≡ drop 1 l
-  rest-left = sym (drop-drop 1 place (expectedOf plan)) ∙ ap (drop 1) e
-
-from-back : (plan : Plan) (rs : List WordRecord) (place last : ℕ) (l : List Expected) → drop place (expectedOf plan) ≡ l
-    → verdictFrom plan place last rs ≡ back l last (plan .until .0) rs
-unfolding verdictFrom back factOf
-from-back plan [] place last [] e = ap (λ (x : Expected). endOf x last (plan .until .0)) (first-left plan place [] e)
-from-back plan [] place last (x ∷ es) e = ap (λ (y : Expected). endOf y last (plan .until .0)) (first-left plan place (x ∷ es) e)
-from-back plan (r ∷ rs) place last [] e =
-    ap (λ (x : Expected). cond (eqb (factOf x last r) good) (verdictFrom plan (place + 1) (r .time .0) rs) (factOf x last r)) (first-left plan place [] e)
-from-back plan (r ∷ rs) place last (x ∷ es) e =
-    ap (λ (y : Expected). cond (eqb (factOf y last r) good) (verdictFrom plan (place + 1) (r .time .0) rs) (factOf y last r))
-    (first-left plan place (x ∷ es) e)
-    ∙ ap (λ (v : ℕ). cond (eqb (factOf x last r) good) v (factOf x last r))
-    (from-back plan rs (place + 1) (r .time .0) es (rest-left plan place (x ∷ es) e))
-
 -- nothing is never on the list
 abbrev Real : List Expected → Type 0
 Real [] = Unit {0}
@@ -174,8 +142,8 @@ missing : (b : Bool) (x y : ℕ) → (x ≡ good → ⊥) → (y ≡ good → �
 missing true x y p q h = p h
 missing false x y p q h = q h
 
-back-good : (es : List Expected) → Real es → (last until : ℕ) (rs : List WordRecord) → back es last until rs ≡ good → Good until es last rs
-unfolding back factOf endOf
+back-good : (es : List Expected) → Real es → (last until : ℕ) (rs : List WordRecord) → verdictOver es last until rs ≡ good → Good until es last rs
+unfolding verdictOver factOf endOf
 back-good [] real last until [] h =
     over (ltb-false (sinceOf last until) listenedLeast (passes (ltb (sinceOf last until) listenedLeast) waiting good (λ e. omega arith) h .0))
 back-good [] real last until (r ∷ rs) h = absurd (omega arith)
@@ -185,14 +153,14 @@ back-good (Data ∷ es) real last until [] h =
     absurd (missing (ltb spacingMost (sinceOf last until)) badlySpaced waiting (λ e. omega arith) (λ e. omega arith) h)
 back-good (Nothing ∷ es) real last until rs h = absurd real
 back-good (Status address unjudged ∷ es) real last until (r ∷ rs) h =
-    let first = fact-first (statusFact address unjudged last r) (back es (r .time .0) until rs) h in
+    let first = fact-first (statusFact address unjudged last r) (verdictOver es (r .time .0) until rs) h in
     status (status-good address unjudged last r (first .0)) (back-good es real (r .time .0) until rs (first .1))
 back-good (Data ∷ es) real last until (r ∷ rs) h =
-    let first = fact-first (dataFact last r) (back es (r .time .0) until rs) h in
+    let first = fact-first (dataFact last r) (verdictOver es (r .time .0) until rs) h in
     word (data-good last r (first .0)) (back-good es real (r .time .0) until rs (first .1))
 
-good-back : {until last : ℕ} {es : List Expected} {rs : List WordRecord} → Good until es last rs → back es last until rs ≡ good
-unfolding back factOf endOf
+good-back : {until last : ℕ} {es : List Expected} {rs : List WordRecord} → Good until es last rs → verdictOver es last until rs ≡ good
+unfolding verdictOver factOf endOf
 good-back {until} {last} (over enough) = rw (le-ltb (sinceOf last until) listenedLeast enough)
 good-back {last = last} (status {address = address} {unjudged = unjudged} {r = r} first rest) = rw (good-status address unjudged last r first) (good-back rest)
 good-back {last = last} (word {r = r} first rest) = rw (good-data last r first) (good-back rest)
@@ -200,5 +168,4 @@ good-back {last = last} (word {r = r} first rest) = rw (good-data last r first) 
 pub good-exactly : GoodExactly
 unfolding verdictOf
 good-exactly plan rs =
-    let same = from-back plan rs 0 (plan .last .0) (expectedOf plan) refl in
-    (λ h. back-good (expectedOf plan) (real-expected plan) (plan .last .0) (plan .until .0) rs (sym same ∙ h), λ g. same ∙ good-back g)
+    (back-good (expectedOf plan) (real-expected plan) (plan .last .0) (plan .until .0) rs, good-back)

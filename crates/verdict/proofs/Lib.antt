@@ -1,4 +1,5 @@
 pub mod Places
+pub mod Orders
 pub mod Walks
 pub mod Tests
 pub mod Ranges

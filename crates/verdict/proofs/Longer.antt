@@ -1,6 +1,6 @@
 -- Listening longer changes no verdict but 2. Assumes nothing.
-use mathlib.Core.Path.{_≡_, refl, sym, ap}
-use Prim.Native.Nat.{ℕ, zero, suc, _+_, _≤_}
+use mathlib.Core.Path.{_≡_, refl, sym, ap, subst}
+use Prim.Native.Nat.{ℕ, zero, suc, _≤_}
 use mathlib.Core.Bool.{Bool, true, false, cond, _&&_}
 use mathlib.Core.List.{List, [], _∷_}
 use mathlib.Core.Logic.{_⊎_, inl, inr}
@@ -8,8 +8,8 @@ use native.Mathlib.Omega.{arith}
 use lib.Dec.{eqb, ltb, leb}
 use lib.ListN.{length, drop}
 use borrow.Author.Tests.{leb-true, le-leb, ltb-true, ltb-false, lt-ltb, le-ltb, eq-eqb, eqb-true}
-use Rattle.words.specs.Words.{sinceOf, noResponseDistance, spacingMost}
-use Rattle.words.specs.Refusals.{notRefused, refusedOutOfOrder, refusedOutOfRange}
+use Rattle.words.specs.Words.{onClock, sinceOf, noResponseDistance, spacingMost}
+use Rattle.words.specs.Refusals.{notRefused, refusedOutOfOrder, refusedOutOfRange, refusedImpossiblePlan}
 use Rattle.words.proofs.Truth.{and-both}
 use Rattle.words.specs.declared.refusals.Refusal.{Refusal}
 use Rattle.words.specs.declared.times.Moment.{Moment}
@@ -18,66 +18,71 @@ use Rattle.records.specs.Files.{Walk, whole, stops, with}
 use Rattle.records.specs.declared.forms.WordRecord.{WordRecord}
 use Rattle.records.specs.declared.forms.Read.{Read}
 use Rattle.records.specs.declared.forms.Read.the-variants.{Record, Refused}
-use Rattle.verdict.specs.Plans.{expectedOf, expectedAt}
-use Rattle.verdict.specs.Numbers.{good, waiting}
+use Rattle.verdict.specs.Plans.{isPossible, planRefusal, expectedOf}
+use Rattle.verdict.specs.Numbers.{good, noResponse, waiting, badlySpaced}
 use Rattle.verdict.specs.Facts.{factOf, endOf, listenedLeast}
-use Rattle.verdict.specs.Verdicts.{recordRefusal, timeIn, goOn, returnedFrom, returnedOf, verdictFrom, verdictOf}
-use Rattle.verdict.specs.Theorems.{until, Longer}
+use Rattle.verdict.specs.Verdicts.{recordRefusal, goOn, returnedFrom, returnedOf, verdictOver, verdictOf, decide, judgedOf, verdictOr}
+use Rattle.verdict.specs.Theorems.{withUntil, isFinal, Longer}
+use Rattle.verdict.specs.declared.verdicts.Verdict.{Verdict}
+use Rattle.verdict.specs.declared.judges.Judged.{Judged}
+use Rattle.verdict.specs.declared.judges.Judged.the-variants as judged
 use Rattle.verdict.specs.declared.plans.Plan.{Plan}
 use Rattle.verdict.specs.declared.plans.Expected.{Expected}
 use Rattle.verdict.specs.declared.plans.Expected.the-variants.{Status, Data, Nothing}
 
 -- ---- the verdict
 
--- a choice that goes one way for good once it goes so
-settles : (before after : Bool) (x y : ℕ) → (before ≡ true → after ≡ true) → y ≡ waiting
-    → (cond after x y ≡ cond before x y) ⊎ (cond before x y ≡ waiting)
-settles true after x y h e = inl (rw (h refl))
-settles false after x y h e = inr e
+-- a verdict and the one in its place
+abbrev Replaces : ℕ → ℕ → Type 0
+Replaces after before = (after ≡ before) ⊎ ((before ≡ waiting) × (isFinal after ≡ true))
 
-settles-not : (before after : Bool) (x y : ℕ) → (before ≡ false → after ≡ false) → x ≡ waiting
-    → (cond after x y ≡ cond before x y) ⊎ (cond before x y ≡ waiting)
-settles-not true after x y h e = inr e
-settles-not false after x y h e = inl (rw (h refl))
+-- a choice that goes one way for good once it goes so: before that it is waiting
+settles : (before after : Bool) (x : ℕ) → (before ≡ true → after ≡ true) → isFinal x ≡ true → Replaces (cond after x waiting) (cond before x waiting)
+settles true after x h final = inl (rw (h refl))
+settles false true x h final = inr (refl, final)
+settles false false x h final = inl refl
 
-module _ (plan : Plan) (moment : Moment) (longer : plan .until .0 ≤ moment .0) where
-  end-longer : (e : Expected) (last : ℕ)
-      → (endOf e last (moment .0) ≡ endOf e last (plan .until .0)) ⊎ (endOf e last (plan .until .0) ≡ waiting)
+settles-not : (before after : Bool) (x : ℕ) → (before ≡ false → after ≡ false) → isFinal x ≡ true → Replaces (cond after waiting x) (cond before waiting x)
+settles-not true true x h final = inl refl
+settles-not true false x h final = inr (refl, final)
+settles-not false after x h final = inl (rw (h refl))
+
+module _ (plan : Plan) (moment : Moment) (later : plan .until .0 ≤ moment .0) where
+  end-longer : (e : Expected) (last : ℕ) → Replaces (endOf e last (moment .0)) (endOf e last (plan .until .0))
   unfolding endOf
   end-longer (Status address unjudged) last =
-      settles (leb noResponseDistance (sinceOf last (plan .until .0))) (leb noResponseDistance (sinceOf last (moment .0))) _ _
+      settles (leb noResponseDistance (sinceOf last (plan .until .0))) (leb noResponseDistance (sinceOf last (moment .0))) noResponse
       (λ h. le-leb noResponseDistance (sinceOf last (moment .0)) (omega (arith, leb-true noResponseDistance (sinceOf last (plan .until .0)) h)))
       refl
   end-longer Data last =
-      settles (ltb spacingMost (sinceOf last (plan .until .0))) (ltb spacingMost (sinceOf last (moment .0))) _ _
+      settles (ltb spacingMost (sinceOf last (plan .until .0))) (ltb spacingMost (sinceOf last (moment .0))) badlySpaced
       (λ h. lt-ltb spacingMost (sinceOf last (moment .0)) (omega (arith, ltb-true spacingMost (sinceOf last (plan .until .0)) h)))
       refl
   end-longer Nothing last =
-      settles-not (ltb (sinceOf last (plan .until .0)) listenedLeast) (ltb (sinceOf last (moment .0)) listenedLeast) _ _
+      settles-not (ltb (sinceOf last (plan .until .0)) listenedLeast) (ltb (sinceOf last (moment .0)) listenedLeast) good
       (λ h. le-ltb (sinceOf last (moment .0)) listenedLeast (omega (arith, ltb-false (sinceOf last (plan .until .0)) listenedLeast h)))
       refl
 
-  verdict-longer : (place last : ℕ) (rs : List WordRecord)
-      → (verdictFrom (until plan moment) place last rs ≡ verdictFrom plan place last rs) ⊎ (verdictFrom plan place last rs ≡ waiting)
-  unfolding verdictFrom expectedOf
-  verdict-longer place last [] = end-longer (expectedAt plan place) last
-  verdict-longer place last (r ∷ rs) = go (eqb fact good) (verdict-longer (place + 1) (r .time .0) rs)
+  over-longer : (es : List Expected) (last : ℕ) (rs : List WordRecord)
+      → Replaces (verdictOver es last (moment .0) rs) (verdictOver es last (plan .until .0) rs)
+  unfolding verdictOver
+  over-longer [] last [] = end-longer Nothing last
+  over-longer [] last (r ∷ rs) = inl refl
+  over-longer (e ∷ es) last [] = end-longer e last
+  over-longer (e ∷ es) last (r ∷ rs) = go (eqb (factOf e last r) good) (over-longer es (r .time .0) rs)
     where
-      fact : ℕ
-      fact = factOf (expectedAt plan place) last r
-
-      go : (b : Bool) {x y : ℕ} → (x ≡ y) ⊎ (y ≡ waiting) → (cond b x fact ≡ cond b y fact) ⊎ (cond b y fact ≡ waiting)
+      go : (b : Bool) {x y : ℕ} → Replaces x y → Replaces (cond b x (factOf e last r)) (cond b y (factOf e last r))
       go true rest = rest
       go false rest = inl refl
 
-  -- ---- the records are all taken again
+  -- ---- the plan and its records are taken again
 
   in-time-longer : (before t : ℕ) → (ltb before t && leb t (plan .until .0)) ≡ true → (ltb before t && leb t (moment .0)) ≡ true
   in-time-longer before t h =
       let parts = and-both (ltb before t) (leb t (plan .until .0)) h in
       rw (parts .0) (le-leb t (moment .0) (omega (arith, leb-true t (plan .until .0) (parts .1))))
 
-  record-longer : (before : ℕ) (r : WordRecord) → recordRefusal plan before r ≡ notRefused → recordRefusal (until plan moment) before r ≡ notRefused
+  record-longer : (before : ℕ) (r : WordRecord) → recordRefusal plan before r ≡ notRefused → recordRefusal (withUntil plan moment) before r ≡ notRefused
   unfolding recordRefusal
   record-longer before r = go (eqb (r .bus) (plan .bus)) (ltb before t && leb t (plan .until .0)) refl
     where
@@ -97,13 +102,13 @@ module _ (plan : Plan) (moment : Moment) (longer : plan .until .0 ≤ moment .0)
   with-whole r (stops n) rs e = let z : _≡_ {A = ℕ} 0 1 = cc in absurd (omega arith)
 
   returned-longer : (n before : ℕ) (bytes : List ℕ) (rs : List WordRecord) → returnedFrom n plan before bytes ≡ whole rs
-      → returnedFrom n (until plan moment) before bytes ≡ whole rs
+      → returnedFrom n (withUntil plan moment) before bytes ≡ whole rs
   unfolding returnedFrom
   returned-longer zero before bytes rs h = h
   returned-longer (suc n) before bytes rs h =
-      go (eqb (length bytes) 0) (readOf bytes) (returnedFrom n plan (timeIn (readOf bytes)) (drop recordBytes bytes))
-      (returnedFrom n (until plan moment) (timeIn (readOf bytes)) (drop recordBytes bytes))
-      (returned-longer n (timeIn (readOf bytes)) (drop recordBytes bytes))
+      go (eqb (length bytes) 0) (readOf bytes) (λ time. returnedFrom n plan time (drop recordBytes bytes))
+      (λ time. returnedFrom n (withUntil plan moment) time (drop recordBytes bytes))
+      (λ time. returned-longer n time (drop recordBytes bytes))
       h
     where
       checked : (b c : Bool) (r : WordRecord) (w w' : Walk) (k k' : Refusal) → (b ≡ true → c ≡ true)
@@ -115,17 +120,72 @@ module _ (plan : Plan) (moment : Moment) (longer : plan .until .0 ≤ moment .0)
           rw (again refl, rest others e) (ap (λ (l : List WordRecord). whole l) (sym same))
       checked false c r w w' k k' again rest h = let z : _≡_ {A = ℕ} 0 1 = cc in absurd (omega arith)
 
-      go : (b : Bool) (g : Read) (w w' : Walk) → ((rest : List WordRecord) → w ≡ whole rest → w' ≡ whole rest)
-          → cond b (whole []) (goOn plan before g w) ≡ whole rs
-          → cond b (whole []) (goOn (until plan moment) before g w') ≡ whole rs
-      go true g w w' rest h = h
-      go false (Record r) w w' rest h =
-          checked (eqb (recordRefusal plan before r) notRefused) (eqb (recordRefusal (until plan moment) before r) notRefused) r w w' _ _
+      go : (b : Bool) (g : Read) (rest rest' : ℕ → Walk) → ((time : ℕ) (others : List WordRecord) → rest time ≡ whole others → rest' time ≡ whole others)
+          → cond b (whole []) (goOn plan before g rest) ≡ whole rs
+          → cond b (whole []) (goOn (withUntil plan moment) before g rest') ≡ whole rs
+      go true g rest rest' again h = h
+      go false (Record r) rest rest' again h =
+          checked (eqb (recordRefusal plan before r) notRefused) (eqb (recordRefusal (withUntil plan moment) before r) notRefused) r (rest (r .time .0))
+          (rest' (r .time .0)) _ _
           (λ ok. eq-eqb _ notRefused (record-longer before r (eqb-true (recordRefusal plan before r) notRefused ok)))
-          rest h
-      go false (Refused k) w w' rest h = h
+          (again (r .time .0)) h
+      go false (Refused k) rest rest' again h = h
+
+  plan-longer : onClock (moment .0) ≡ true → planRefusal plan ≡ notRefused → planRefusal (withUntil plan moment) ≡ notRefused
+  unfolding planRefusal isPossible
+  plan-longer on-clock = go (isPossible plan) (fits (plan .until .0)) refl
+    where
+      -- the test of the plan's numbers with that Q
+      fits : ℕ → Bool
+      fits q = leb (plan .bus) 1 && onClock (plan .last .0) && onClock q && leb (plan .last .0) q
+
+      again : fits (plan .until .0) ≡ true → fits (moment .0) ≡ true
+      again h =
+          let all = and-both (leb (plan .bus) 1 && onClock (plan .last .0) && onClock (plan .until .0)) (leb (plan .last .0) (plan .until .0)) h in
+          let front = and-both (leb (plan .bus) 1 && onClock (plan .last .0)) (onClock (plan .until .0)) (all .0) in
+          rw (front .0, on-clock) (le-leb (plan .last .0) (moment .0) (omega (arith, leb-true (plan .last .0) (plan .until .0) (all .1))))
+
+      go : (possible fit : Bool) → fits (plan .until .0) ≡ fit
+          → cond possible (cond fit notRefused refusedOutOfRange) refusedImpossiblePlan ≡ notRefused
+          → cond possible (cond (fits (moment .0)) notRefused refusedOutOfRange) refusedImpossiblePlan ≡ notRefused
+      go true true h ok = rw (again h)
+      go true false h bad = absurd (omega arith)
+      go false fit h bad = absurd (omega arith)
+
+-- ---- a verdict that is given
+
+record Taken (plan : Plan) (bytes : List ℕ) (v : Verdict) : Type 0 where
+  refusal : planRefusal plan ≡ notRefused
+  records : List WordRecord
+  returned : returnedOf plan bytes ≡ whole records
+  verdict : verdictOf plan records ≡ v .0
+
+given-taken : (plan : Plan) (bytes : List ℕ) (v : Verdict) → judgedOf plan bytes ≡ judged.Given v → Taken plan bytes v
+unfolding judgedOf
+given-taken plan bytes v h = go (eqb (planRefusal plan) notRefused) refl (returnedOf plan bytes) refl h
+  where
+    go : (b : Bool) → eqb (planRefusal plan) notRefused ≡ b
+        → (w : Walk) → returnedOf plan bytes ≡ w
+        → cond b (decide plan w) (judged.Refused (record { 0 = planRefusal plan })) ≡ judged.Given v
+        → Taken plan bytes v
+    go true ok (whole rs) e h =
+        record { refusal = eqb-true (planRefusal plan) notRefused ok; records = rs; returned = e; verdict = ap (λ (j : Judged). verdictOr j 0) h }
+    go true ok (stops n) e h = let z : _≡_ {A = ℕ} 0 1 = cc in absurd (omega arith)
+    go false bad w e h = let z : _≡_ {A = ℕ} 0 1 = cc in absurd (omega arith)
+
+taken-given : (plan : Plan) (bytes : List ℕ) (rs : List WordRecord) → planRefusal plan ≡ notRefused → returnedOf plan bytes ≡ whole rs
+    → judgedOf plan bytes ≡ judged.Given (record { 0 = verdictOf plan rs })
+unfolding judgedOf
+taken-given plan bytes rs ok e = rw (eq-eqb (planRefusal plan) notRefused ok, e)
 
 pub longer : Longer
-unfolding returnedOf verdictOf
-longer plan moment later bytes rs h =
-    (returned-longer plan moment later (length bytes) (plan .last .0) bytes rs h, verdict-longer plan moment later 0 (plan .last .0) rs)
+unfolding returnedOf verdictOf expectedOf
+longer plan moment later on-clock bytes v h =
+    let t = given-taken plan bytes v h in
+    let rs = t .records in
+    let again : returnedOf (withUntil plan moment) bytes ≡ whole rs =
+    returned-longer plan moment later (length bytes) (plan .last .0) bytes rs (t .returned) in (
+      record { 0 = verdictOf (withUntil plan moment) rs },
+      taken-given (withUntil plan moment) bytes rs (plan-longer plan moment later on-clock (t .refusal)) again,
+      subst (λ (x : ℕ). Replaces (verdictOf (withUntil plan moment) rs) x) (t .verdict) (over-longer plan moment later (expectedOf plan) (plan .last .0) rs),
+    )

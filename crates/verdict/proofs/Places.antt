@@ -9,7 +9,8 @@ use lib.ListN.{getD, replicate}
 use borrow.Author.Tests.{leb-true, eqb-false, not-true}
 use Rattle.words.specs.Words.{isBroadcast}
 use Rattle.words.proofs.Truth.{and-both}
-use Rattle.verdict.specs.Plans.{statusFor, sentOf, partOf, backOf, expectedOf, sentFirst, expectedAt}
+use Rattle.verdict.specs.Plans.{statusFor, sentOf, partOf, backOf, expectedOf}
+use Rattle.verdict.specs.Verdicts.{sentFirst, expectedAt}
 use Rattle.verdict.specs.declared.plans.Plan.{Plan}
 use Rattle.verdict.specs.declared.plans.Expected.{Expected}
 use Rattle.verdict.specs.declared.plans.Expected.the-variants.{Data, Nothing}

@@ -3,14 +3,14 @@ use Prim.Native.Nat.{ℕ, _≤_, _+_}
 use mathlib.Core.List.{List, [], _∷_}
 use lib.Dec.{eqb, lit≤}
 use Rattle.records.specs.declared.forms.WordRecord.{WordRecord}
-use Rattle.verdict.specs.Plans.{expectedAt}
 use Rattle.verdict.specs.Numbers.{good}
 use Rattle.verdict.specs.Facts.{flagFact, statusFact, dataFact, factOf, endOf}
-use Rattle.verdict.specs.Verdicts.{verdictFrom, verdictOf}
+use Rattle.verdict.specs.Verdicts.{expectedAt, verdictFrom}
 use Rattle.verdict.specs.Theorems.{VerdictRange}
 use Rattle.verdict.specs.declared.plans.Plan.{Plan}
 use Rattle.verdict.specs.declared.plans.Expected.{Expected}
 use Rattle.verdict.specs.declared.plans.Expected.the-variants.{Status, Data, Nothing}
+use Rattle.verdict.proofs.Orders.{verdict-places}
 use Rattle.verdict.proofs.Tests.{cond-most}
 
 -- of each fact
@@ -35,5 +35,4 @@ from-range plan place last (r ∷ rs) =
     (fact-range (expectedAt plan place) last r)
 
 pub verdict-range : VerdictRange
-unfolding verdictOf
-verdict-range plan rs = from-range plan 0 (plan .last .0) rs
+verdict-range plan rs = rw (verdict-places plan rs) (from-range plan 0 (plan .last .0) rs)

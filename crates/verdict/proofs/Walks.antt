@@ -16,8 +16,9 @@ use Rattle.records.specs.declared.forms.WordRecord.{WordRecord}
 use Rattle.records.specs.declared.forms.Read.{Read}
 use Rattle.records.specs.declared.forms.Read.the-variants.{Record, Refused}
 use Rattle.records.proofs.Cases.{rest-read}
+use Rattle.verdict.proofs.Orders.{verdict-places}
 use Rattle.verdict.specs.Numbers.{good}
-use Rattle.verdict.specs.Verdicts.{recordRefusal, timeIn, goOn, returnedFrom, returnedOf, verdictFrom, verdictOf, lookOf, finishOf, refusedOf, decide}
+use Rattle.verdict.specs.Verdicts.{recordRefusal, goOn, returnedFrom, returnedOf, verdictFrom, lookOf, finishOf, refusedOf, decide}
 use Rattle.verdict.specs.declared.plans.Plan.{Plan}
 use Rattle.verdict.specs.declared.judges.Judged.{Judged}
 use Rattle.verdict.specs.declared.judges.Judged.the-variants as judged
@@ -35,8 +36,8 @@ pub record Left (plan : Plan) (bytes : List ℕ) (total : Judged) (at place last
   pub same : resume plan found place last (returnedFrom fuel plan last (drop at bytes)) ≡ total
 
 start-same : (plan : Plan) (w : Walk) → resume plan good 0 (plan .last .0) w ≡ decide plan w
-unfolding resume verdictOf
-start-same plan (whole rs) = refl
+unfolding resume
+start-same plan (whole rs) = ap (λ (v : ℕ). judged.Given (record { 0 = v })) (sym (verdict-places plan rs))
 start-same plan (stops n) = refl
 
 pub start : (plan : Plan) (bytes : List ℕ) → Left plan bytes (decide plan (returnedOf plan bytes)) 0 0 (plan .last .0) good
@@ -62,10 +63,10 @@ stop plan bytes total at place last found left end =
 record Turn (plan : Plan) (bytes : List ℕ) (total : Judged) (at place last found : ℕ) (g : Read) : Type 0 where
   fuel : ℕ
   enough : length bytes ≤ at + suc fuel
-  same : resume plan found place last (goOn plan last g (returnedFrom fuel plan (timeIn g) (drop (at + recordBytes) bytes))) ≡ total
+  same : resume plan found place last (goOn plan last g (λ (time : ℕ). returnedFrom fuel plan time (drop (at + recordBytes) bytes))) ≡ total
 
 returned-some : (n : ℕ) (plan : Plan) (last : ℕ) (bytes : List ℕ) → 0 < length bytes
-    → returnedFrom (suc n) plan last bytes ≡ goOn plan last (readOf bytes) (returnedFrom n plan (timeIn (readOf bytes)) (drop recordBytes bytes))
+    → returnedFrom (suc n) plan last bytes ≡ goOn plan last (readOf bytes) (λ (time : ℕ). returnedFrom n plan time (drop recordBytes bytes))
 unfolding returnedFrom
 returned-some n plan last bytes some = rw (ne-eqb (length bytes) 0 (λ e. omega arith))
 
@@ -77,7 +78,12 @@ turn-by plan bytes total at place last found zero enough same l = absurd (omega 
 turn-by plan bytes total at place last found (suc n) enough same l = record {
   fuel = n;
   enough = enough;
-  same = sym (rw (returned-some n plan last (drop at bytes) (omega (arith, length-drop at bytes)), drop-drop recordBytes at bytes)) ∙ same;
+  same =
+      sym
+      (ap (resume plan found place last) (returned-some n plan last (drop at bytes) (omega (arith, length-drop at bytes)))
+      ∙ ap (λ (l : List ℕ). resume plan found place last (goOn plan last (readOf (drop at bytes)) (λ (time : ℕ). returnedFrom n plan time l)))
+      (drop-drop recordBytes at bytes))
+      ∙ same;
 }
 
 -- a record more, looked at

@@ -5,7 +5,7 @@ use lib.Dec.{eqb, ltb, leb}
 use Rattle.words.specs.Words.{sinceOf, gapOf, isSpaced, spacingMost, noResponseDistance, addressOf, hasFlag, isValid, commandSync, dataSync}
 use Rattle.words.specs.declared.statuses.Flag.the-variants.{MessageError, Busy}
 use Rattle.records.specs.declared.forms.WordRecord.{WordRecord}
-use Rattle.verdict.specs.Numbers.{good, noResponse, waiting, early, late, notValid, wrongSync, wrongAddress, messageError, isBusy, badlySpaced, leftOver}
+use Rattle.verdict.specs.Numbers.{good, noResponse, waiting, early, late, notValid, wrongSync, wrongAddress, messageError, busy, badlySpaced, leftOver}
 use Rattle.verdict.specs.declared.plans.Expected.{Expected}
 use Rattle.verdict.specs.declared.plans.Expected.the-variants.{Status, Data, Nothing}
 
@@ -27,12 +27,13 @@ listenedLeast = 220
 
 -- ---- a fact of a record: the number of the verdict, 0 where none is found
 
+-- "Message error: 8. Busy: 9."
+unfoldable pub flagFact : WordRecord → ℕ
+flagFact r = cond (hasFlag MessageError (r .word)) messageError (cond (hasFlag Busy (r .word)) busy good)
+
 -- "Status: nothing with a gap up to 140: 1 no response if .. a record came later .. Gap below 40: 3 early. Above 120: 4 late. Not valid, sync 2
 -- included: 5. Data sync: 6. Wrong address: 7. Message error: 8. Busy: 9. The last two aren't given for mode codes 2 and 18." A gap that would be
 -- negative is 0, and below 40.
-unfoldable pub flagFact : WordRecord → ℕ
-flagFact r = cond (hasFlag MessageError (r .word)) messageError (cond (hasFlag Busy (r .word)) isBusy good)
-
 unfoldable pub statusFact : ℕ → Bool → ℕ → WordRecord → ℕ
 statusFact address unjudged last r =
     cond (ltb responseMost (gapOf last (r .time .0))) noResponse

@@ -38,8 +38,8 @@ abbrev pub messageError : ℕ
 messageError = 8
 
 -- "Busy: 9."
-abbrev pub isBusy : ℕ
-isBusy = 9
+abbrev pub busy : ℕ
+busy = 9
 
 -- "not 195 to 205 after the last word, or missing ..: 10"
 abbrev pub badlySpaced : ℕ

@@ -3,7 +3,7 @@ use Prim.Native.Nat.{ℕ}
 use mathlib.Core.Bool.{Bool, not, cond, _&&_, _||_}
 use mathlib.Core.List.{List, [], _∷_, _++_}
 use lib.Dec.{eqb, leb}
-use lib.ListN.{getD, replicate}
+use lib.ListN.{replicate}
 use Rattle.words.specs.Words.{onClock, addressOf, countOf, codeOf, wordsOf, isTransmit, isMode, isBroadcast}
 use Rattle.words.specs.Modes.{listingOf, isAllowed}
 use Rattle.words.specs.Refusals.{notRefused, refusedOutOfRange, refusedImpossiblePlan}
@@ -12,7 +12,7 @@ use Rattle.words.specs.declared.modes.Listing.the-variants.{Reserved, Listed}
 use Rattle.words.specs.declared.modes.ModeWord.the-variants.{None, Sent, Received}
 use Rattle.verdict.specs.declared.plans.Plan.{Plan}
 use Rattle.verdict.specs.declared.plans.Expected.{Expected}
-use Rattle.verdict.specs.declared.plans.Expected.the-variants.{Status, Data, Nothing}
+use Rattle.verdict.specs.declared.plans.Expected.the-variants.{Status, Data}
 
 -- ---- "impossible plan"
 
@@ -20,8 +20,8 @@ use Rattle.verdict.specs.declared.plans.Expected.the-variants.{Status, D
 unfoldable pub isSingle : ℕ → Bool
 isSingle word = cond (isMode word) (isAllowed word) (not (isTransmit word && isBroadcast word))
 
--- "Two commands: a receive and a transmit as above, the receive perhaps to 31.": as the terminal's second command, "that transmits, to another
--- address than ours and 31, no mode command, equal count field" (DECISIONS 7).
+-- "Two commands: a receive and a transmit as above, the receive perhaps to 31.": as the terminal's second command, after "a receive command that is no
+-- mode command", "that transmits, to another address than ours and 31, no mode command, equal count field" (DECISIONS 7).
 unfoldable pub isPair : ℕ → ℕ → Bool
 isPair first second =
     not (isTransmit first)
@@ -64,6 +64,7 @@ sentBy (Listed broadcast Received) = 0
 unfoldable pub sentOf : ℕ → ℕ
 sentOf word = cond (isMode word) (sentBy (listingOf word)) (cond (isTransmit word) (wordsOf word) 0)
 
+-- a command's status, then its data words
 abbrev pub partOf : ℕ → List Expected
 partOf word = statusFor word ∷ replicate (sentOf word) Data
 
@@ -75,11 +76,3 @@ backOf word = cond (isBroadcast word) [] (partOf word)
 -- commands"
 unfoldable pub expectedOf : Plan → List Expected
 expectedOf plan = cond (eqb (plan .commands) 1) (backOf (plan .first .0)) (partOf (plan .second .0) ++ backOf (plan .first .0))
-
--- how many data words are expected after the first status
-unfoldable pub sentFirst : Plan → ℕ
-sentFirst plan = cond (eqb (plan .commands) 1) (cond (isBroadcast (plan .first .0)) 0 (sentOf (plan .first .0))) (sentOf (plan .second .0))
-
--- what is expected at a place, counted from 0
-abbrev pub expectedAt : Plan → ℕ → Expected
-expectedAt plan place = getD (expectedOf plan) place Nothing

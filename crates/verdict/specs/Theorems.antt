@@ -1,18 +1,20 @@
 -- What holds of verdicts beyond each function's own promise, proved in proofs/ under the name at its side. Assumes nothing.
 use Prim.Native.Nat.{ℕ, _≤_}
 use mathlib.Core.Path.{_≡_}
-use mathlib.Core.Bool.{Bool, true, false}
+use mathlib.Core.Bool.{Bool, true, false, _||_}
 use mathlib.Core.List.{List, [], _∷_}
 use mathlib.Core.Logic.{_⊎_}
-use Rattle.words.specs.Words.{sinceOf, gapOf, isSpaced, addressOf, hasFlag, isValid, commandSync, dataSync}
+use lib.Dec.{eqb}
+use Rattle.words.specs.Words.{onClock, sinceOf, gapOf, isSpaced, addressOf, hasFlag, isValid, commandSync, dataSync}
 use Rattle.words.specs.declared.times.Moment.{Moment}
 use Rattle.words.specs.declared.statuses.Flag.the-variants.{MessageError, Busy}
-use Rattle.records.specs.Files.{whole}
 use Rattle.records.specs.declared.forms.WordRecord.{WordRecord}
 use Rattle.verdict.specs.Plans.{expectedOf}
-use Rattle.verdict.specs.Numbers.{good, waiting}
+use Rattle.verdict.specs.Numbers.{good, noResponse, waiting, badlySpaced}
 use Rattle.verdict.specs.Facts.{gapLeast, gapMost, listenedLeast}
-use Rattle.verdict.specs.Verdicts.{returnedOf, verdictOf}
+use Rattle.verdict.specs.Verdicts.{verdictOf, judgedOf}
+use Rattle.verdict.specs.declared.verdicts.Verdict.{Verdict}
+use Rattle.verdict.specs.declared.judges.Judged.the-variants as judged
 use Rattle.verdict.specs.declared.plans.Plan.{Plan}
 use Rattle.verdict.specs.declared.plans.Expected.{Expected}
 use Rattle.verdict.specs.declared.plans.Expected.the-variants.{Status, Data}
@@ -59,14 +61,18 @@ GoodExactly =
 
 -- ---- listening longer
 
-abbrev pub until : Plan → Moment → Plan
-until plan moment =
+-- the plan with another Q
+abbrev pub withUntil : Plan → Moment → Plan
+withUntil plan moment =
     record { commands = plan .commands; first = plan .first; second = plan .second; bus = plan .bus; last = plan .last; until = moment }
 
--- The same records with a later Q: they are all taken again, and the verdict is the same, or was 2: longer
+-- a verdict that takes the place of "2 still waiting"
+abbrev pub isFinal : ℕ → Bool
+isFinal verdict = eqb verdict good || eqb verdict noResponse || eqb verdict badlySpaced
+
+-- The same bytes with a later Q on the clock: a verdict is given again, the same, or in place of 2 a final one: longer
 abbrev pub Longer : Type 0
 Longer =
-    (plan : Plan) (moment : Moment) → plan .until .0 ≤ moment .0
-    → (bytes : List ℕ) (rs : List WordRecord) → returnedOf plan bytes ≡ whole rs
-    → (returnedOf (until plan moment) bytes ≡ whole rs)
-    × ((verdictOf (until plan moment) rs ≡ verdictOf plan rs) ⊎ (verdictOf plan rs ≡ waiting))
+    (plan : Plan) (moment : Moment) → plan .until .0 ≤ moment .0 → onClock (moment .0) ≡ true
+    → (bytes : List ℕ) (v : Verdict) → judgedOf plan bytes ≡ judged.Given v
+    → (w : Verdict) × (judgedOf (withUntil plan moment) bytes ≡ judged.Given w) × ((w .0 ≡ v .0) ⊎ ((v .0 ≡ waiting) × (isFinal (w .0) ≡ true)))

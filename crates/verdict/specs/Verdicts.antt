@@ -3,17 +3,20 @@ use Prim.Native.Nat.{ℕ, zero, suc, _+_}
 use mathlib.Core.Bool.{cond, _&&_}
 use mathlib.Core.List.{List, [], _∷_}
 use lib.Dec.{eqb, ltb, leb}
-use lib.ListN.{length, drop}
+use lib.ListN.{length, getD, drop}
 use Rattle.words.specs.Refusals.{notRefused, refusedOutOfRange, refusedOutOfOrder}
-use Rattle.records.specs.Records.{recordBytes, readOf}
+use Rattle.records.specs.Records.{recordBytes, readOf, refusalOf}
 use Rattle.records.specs.Files.{Walk, whole, stops, with}
 use Rattle.records.specs.declared.forms.WordRecord.{WordRecord}
 use Rattle.records.specs.declared.forms.Read.{Read}
 use Rattle.records.specs.declared.forms.Read.the-variants as read
-use Rattle.verdict.specs.Plans.{planRefusal, expectedAt}
+use Rattle.words.specs.Words.{isBroadcast}
+use Rattle.verdict.specs.Plans.{planRefusal, sentOf, expectedOf}
 use Rattle.verdict.specs.Numbers.{good}
 use Rattle.verdict.specs.Facts.{factOf, endOf}
 use Rattle.verdict.specs.declared.plans.Plan.{Plan}
+use Rattle.verdict.specs.declared.plans.Expected.{Expected}
+use Rattle.verdict.specs.declared.plans.Expected.the-variants.{Nothing}
 use Rattle.verdict.specs.declared.judges.Judged.{Judged}
 use Rattle.verdict.specs.declared.judges.Judged.the-variants as judged
 
@@ -26,15 +29,10 @@ recordRefusal plan before r =
     (cond (ltb before (r .time .0) && leb (r .time .0) (plan .until .0)) notRefused refusedOutOfOrder)
     refusedOutOfRange
 
--- the time of what was read
-abbrev pub timeIn : Read → ℕ
-timeIn (read.Record r) = r .time .0
-timeIn (read.Refused n) = 0
-
--- a record, with those after it, or the first refusal: each record whole before the next
-abbrev pub goOn : Plan → ℕ → Read → Walk → Walk
+-- a record, with those after it, which come after its time; or the first refusal: each record whole before the next
+abbrev pub goOn : Plan → ℕ → Read → (ℕ → Walk) → Walk
 goOn plan before (read.Record r) rest =
-    cond (eqb (recordRefusal plan before r) notRefused) (with r rest) (stops (record { 0 = recordRefusal plan before r }))
+    cond (eqb (recordRefusal plan before r) notRefused) (with r (rest (r .time .0))) (stops (record { 0 = recordRefusal plan before r }))
 goOn plan before (read.Refused n) rest = stops n
 
 -- "the returned records as record bytes, 16 each, no version byte": at most so many records, the one before them at that time. There are never
@@ -42,30 +40,34 @@ goOn plan before (read.Refused n) rest = stops n
 unfoldable pub returnedFrom : ℕ → Plan → ℕ → List ℕ → Walk
 returnedFrom zero plan before bytes = whole []
 returnedFrom (suc n) plan before bytes =
-    cond (eqb (length bytes) 0) (whole [])
-    (goOn plan before (readOf bytes) (returnedFrom n plan (timeIn (readOf bytes)) (drop recordBytes bytes)))
+    cond (eqb (length bytes) 0) (whole []) (goOn plan before (readOf bytes) (λ (time : ℕ). returnedFrom n plan time (drop recordBytes bytes)))
 
+-- the first comes after "the time E of the controller's last word"
 unfoldable pub returnedOf : Plan → List ℕ → Walk
 returnedOf plan bytes = returnedFrom (length bytes) plan (plan .last .0) bytes
 
 -- ---- "First fact found decides"
 
--- from a place on, the last word at that time
-unfoldable pub verdictFrom : Plan → ℕ → ℕ → List WordRecord → ℕ
-verdictFrom plan place last [] = endOf (expectedAt plan place) last (plan .until .0)
-verdictFrom plan place last (r ∷ rs) =
-    cond (eqb (factOf (expectedAt plan place) last r) good) (verdictFrom plan (place + 1) (r .time .0) rs)
-    (factOf (expectedAt plan place) last r)
+-- of the records against what is expected, the last word at that time; "A record left over: 11."
+unfoldable pub verdictOver : List Expected → ℕ → ℕ → List WordRecord → ℕ
+verdictOver [] last until [] = endOf Nothing last until
+verdictOver [] last until (r ∷ rs) = factOf Nothing last r
+verdictOver (e ∷ es) last until [] = endOf e last until
+verdictOver (e ∷ es) last until (r ∷ rs) =
+    cond (eqb (factOf e last r) good) (verdictOver es (r .time .0) until rs) (factOf e last r)
 
+-- of a plan, from "the time E" on
 unfoldable pub verdictOf : Plan → List WordRecord → ℕ
-verdictOf plan rs = verdictFrom plan 0 (plan .last .0) rs
+verdictOf plan rs = verdictOver (expectedOf plan) (plan .last .0) (plan .until .0) rs
 
 -- ---- the whole
 
+-- the verdict on records that are all taken, or the refusal
 abbrev pub decide : Plan → Walk → Judged
 decide plan (whole rs) = judged.Given (record { 0 = verdictOf plan rs })
 decide plan (stops n) = judged.Refused n
 
+-- "Verdict: 7; 5 for bus, E, Q, Q below E; then record by record 3, 4, 5, 6, all before any verdict."
 unfoldable pub judgedOf : Plan → List ℕ → Judged
 judgedOf plan bytes =
     cond (eqb (planRefusal plan) notRefused) (decide plan (returnedOf plan bytes)) (judged.Refused (record { 0 = planRefusal plan }))
@@ -79,16 +81,30 @@ abbrev pub verdictOr : Judged → ℕ → ℕ
 verdictOr (judged.Given v) before = v .0
 verdictOr (judged.Refused n) before = before
 
--- ---- the walk as the code makes it, in one pass
+-- ---- the walk as the code makes it, place by place in one pass: for the contracts of inner functions, nothing above rests on it
 
--- The fact found so far, 0 for none, with what a record shows, and with the end.
+-- what is expected at a place, counted from 0
+abbrev pub expectedAt : Plan → ℕ → Expected
+expectedAt plan place = getD (expectedOf plan) place Nothing
+
+-- how many data words are expected after the first status
+unfoldable pub sentFirst : Plan → ℕ
+sentFirst plan = cond (eqb (plan .commands) 1) (cond (isBroadcast (plan .first .0)) 0 (sentOf (plan .first .0))) (sentOf (plan .second .0))
+
+-- the verdict from a place on
+unfoldable pub verdictFrom : Plan → ℕ → ℕ → List WordRecord → ℕ
+verdictFrom plan place last [] = endOf (expectedAt plan place) last (plan .until .0)
+verdictFrom plan place last (r ∷ rs) =
+    cond (eqb (factOf (expectedAt plan place) last r) good) (verdictFrom plan (place + 1) (r .time .0) rs)
+    (factOf (expectedAt plan place) last r)
+
+-- the fact found so far, 0 for none, with what a record shows, and with the end
 unfoldable pub lookOf : Plan → ℕ → ℕ → ℕ → WordRecord → ℕ
 lookOf plan found place last r = cond (eqb found good) (factOf (expectedAt plan place) last r) found
 
 unfoldable pub finishOf : Plan → ℕ → ℕ → ℕ → ℕ
 finishOf plan found place last = cond (eqb found good) (endOf (expectedAt plan place) last (plan .until .0)) found
 
--- the refusal of the reader
+-- the reader's refusal passed on; the code asks it of a refusal alone
 abbrev pub refusedOf : Read → Judged
-refusedOf (read.Record r) = judged.Refused (record { 0 = notRefused })
-refusedOf (read.Refused n) = judged.Refused n
+refusedOf g = judged.Refused (record { 0 = refusalOf g })

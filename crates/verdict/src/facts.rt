@@ -1,7 +1,6 @@
 // The facts that decide a verdict (01 Controller verdicts: "First fact found decides"). Meaning: specs/Facts.antt. Inner functions: the
 // judge calls them. Refusals: none.
 ghost use mathlib.Core.Path.{_≡_};
-ghost use Rattle.verdict.specs.Plans.{expectedAt};
 ghost use Rattle.verdict.specs.Facts.{flagFact, statusFact, dataFact, factOf, endOf};
 use crate::plans::Expected;
 use crate::verdicts::Verdict;

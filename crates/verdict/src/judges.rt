@@ -1,11 +1,11 @@
 // The verdict on a plan: the returned records checked and judged in one walk (01 Controller verdicts). Meaning: specs/Verdicts.antt.
 // Refusals: 7; 5 for bus, E, Q, Q below E; then record by record 3, 4, 5, 6.
 ghost use mathlib.Core.Path.{_≡_};
-ghost use Rattle.verdict.specs.Plans.{sentFirst};
-ghost use Rattle.verdict.specs.Verdicts.{recordRefusal, lookOf, finishOf, refusedOf, returnedOf, decide, judgedOf};
+ghost use Rattle.verdict.specs.Verdicts.{sentFirst, recordRefusal, lookOf, finishOf, refusedOf, returnedOf, decide, judgedOf};
 use crate::facts::data_fact;
 use crate::plans::Plan;
 use crate::verdicts::Verdict;
+use records::RECORD_BYTES;
 use records::Read;
 use records::WordRecord;
 use records::read_record;
@@ -17,9 +17,6 @@ pub enum Judged {
     Given(Verdict),
     Refused(Refusal),
 }
-
-// the bytes of a record
-const RECORD_BYTES: usize = 16;
 
 // Passes the refusal of the reader on; a record has none.
 fn refused(read: Read) -> Judged
@@ -101,7 +98,7 @@ impl Plan {
         Judged::Given(self.finish(Verdict(found), place, Moment(last)))
     }
 
-    // Gives the verdict on the returned records, 16 bytes each.
+    // Gives the verdict on the returned records, 16 bytes each, or the number of the refusal.
     // Tables: records is only read. Refusals: 7; 5 for bus, E, Q, Q below E; then record by record 3, 4, 5, 6.
     pub fn judge(self, records: &[u8]) -> Judged
         ensures judged { λ r. ⌜ r ≡ judgedOf self (now (records .entry)) ⌝ }

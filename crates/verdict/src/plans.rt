@@ -2,7 +2,8 @@
 // Refusals: 7, then 5 for bus, E, Q, Q below E.
 ghost use mathlib.Core.Path.{_≡_};
 ghost use lib.ListN.{getD};
-ghost use Rattle.verdict.specs.Plans.{isSingle, isPair, isPossible, planRefusal, isUnjudged, sentBy, sentOf, partOf, backOf, sentFirst, expectedAt};
+ghost use Rattle.verdict.specs.Plans.{isSingle, isPair, isPossible, planRefusal, isUnjudged, sentBy, sentOf, partOf, backOf};
+ghost use Rattle.verdict.specs.Verdicts.{expectedAt, sentFirst};
 ghost use Rattle.verdict.specs.declared.plans.Expected.the-variants.{Nothing};
 use words::CommandWord;
 use words::Listing;
@@ -11,7 +12,7 @@ use words::Moment;
 use words::Refusal;
 
 // "Plan: one or two command words, the bus, the time E of the controller's last word, the moment Q up to which it listened". Any numbers fit;
-// of one command the second word is not read.
+// of one command the second word is not read. `last` is E, `until` is Q.
 pub struct Plan {
     pub commands: u8,
     pub first: CommandWord,
@@ -38,7 +39,7 @@ fn is_single(command: CommandWord) -> bool
     !(command.is_transmit() & command.is_broadcast())
 }
 
-// Says whether a receive and a transmit command make a plan.
+// Says whether two commands, a receive and then a transmit, make a plan.
 fn is_pair(first: CommandWord, second: CommandWord) -> bool
     ensures answer { λ r. ⌜ r ≡ isPair (first .0) (second .0) ⌝ }
 {
@@ -56,6 +57,20 @@ fn is_unjudged(command: CommandWord) -> bool
 {
     let code = command.count();
     command.is_mode() & ((code == 2) | (code == 18))
+}
+
+// Gives how many data words the code table has a terminal send.
+fn sent_by(listing: Listing) -> u64
+    ensures count { λ r. ⌜ r ≡ sentBy listing ⌝ }
+{
+    match listing {
+        Listing::Reserved => 0,
+        Listing::Listed { broadcast: _, word } => match word {
+            ModeWord::None => 0,
+            ModeWord::Sent => 1,
+            ModeWord::Received => 0,
+        },
+    }
 }
 
 // Gives how many data words come back after the status.
@@ -152,19 +167,5 @@ impl Plan {
             return part_at(second, place);
         }
         back_at(first, place - sent - 1)
-    }
-}
-
-// Gives how many data words the code table has a terminal send.
-fn sent_by(listing: Listing) -> u64
-    ensures count { λ r. ⌜ r ≡ sentBy listing ⌝ }
-{
-    match listing {
-        Listing::Reserved => 0,
-        Listing::Listed { broadcast: _, word } => match word {
-            ModeWord::None => 0,
-            ModeWord::Sent => 1,
-            ModeWord::Received => 0,
-        },
     }
 }

@@ -1,7 +1,7 @@
-// The numbers of verdicts (01 Controller verdicts). Later requests append; no number is given another meaning. Meaning: specs/Numbers.antt.
+// The numbers of verdicts (01 Controller verdicts). Later requests append; one that narrows a number (10, by 02 i) says so. Meaning: specs/Numbers.antt.
 ghost use mathlib.Core.Path.{_≡_};
 ghost use mathlib.Core.List.{[], _∷_};
-ghost use Rattle.verdict.specs.Numbers.{good, noResponse, waiting, early, late, notValid, wrongSync, wrongAddress, messageError, isBusy, badlySpaced, leftOver};
+ghost use Rattle.verdict.specs.Numbers.{good, noResponse, waiting, early, late, notValid, wrongSync, wrongAddress, messageError, busy, badlySpaced, leftOver};
 
 // The number of a verdict.
 pub struct Verdict(pub u8);
@@ -35,7 +35,7 @@ impl Verdict {
 
 // Gives the numbers above. Nothing calls it: its promise holds each to the definition that contracts cite.
 fn list_numbers() -> [u8; 12]
-    ensures all { λ r. ⌜ r ≡ good ∷ noResponse ∷ waiting ∷ early ∷ late ∷ notValid ∷ wrongSync ∷ wrongAddress ∷ messageError ∷ isBusy ∷ badlySpaced ∷ leftOver ∷ [] ⌝ }
+    ensures all { λ r. ⌜ r ≡ good ∷ noResponse ∷ waiting ∷ early ∷ late ∷ notValid ∷ wrongSync ∷ wrongAddress ∷ messageError ∷ busy ∷ badlySpaced ∷ leftOver ∷ [] ⌝ }
 {
     [
         Verdict::GOOD.0,

@@ -1,7 +1,7 @@
 -- By the number of commands, and by whether the one is broadcast. Assumes nothing.
 use mathlib.Core.Path.{sym, _∙_}
 use borrow.Author.Tests.{eq-eqb, ne-eqb}
-use Rattle.verdict.specs.Plans.{sentFirst}
+use Rattle.verdict.specs.Verdicts.{sentFirst}
 use borrow.Author.Needs.{needs}
 use Rattle.verdict.proofs.plans.Plan.sent_first.Statement.{statement}
 use Rattle.verdict.proofs.plans.Plan.sent_first.Tie as tie
