@@ -43,8 +43,9 @@ uint8_t bus_record_write(uint8_t *bytes, size_t n, uint64_t time, uint8_t bus, u
 uint8_t bus_file_check(const uint8_t *bytes, size_t n, uint64_t *records);
 
 /* The verdict on a plan: commands 1 or 2, their words (of one, second is not read), the bus, last the time E of the controller's last word,
- * until the moment Q up to which it listened, and the returned records, 16 bytes each. 0 and the verdict 0 to 11, or 7 impossible plan, 5 bus,
- * E, Q, Q below E, then of the first bad record 3, 4, 5 (also another bus), 6 (not later than the one before, or after Q). */
+ * until the moment Q up to which it listened, and the returned records, 16 bytes each. 0 and the verdict 0 to 11; or 7 impossible plan, 5 bus,
+ * E or Q out of range or Q below E, then of the first bad record 3, 4, 5 (also another bus), 6 (not later than the one before, E for the
+ * first, or after Q). */
 uint8_t bus_verdict_give(uint8_t commands, uint16_t first, uint16_t second, uint8_t bus, uint64_t last, uint64_t until,
                          const uint8_t *records, size_t n, uint8_t *verdict);
 

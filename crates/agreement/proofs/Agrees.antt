@@ -1,4 +1,4 @@
--- The two halves agree: agrees, agrees-after-any-past. Assumes nothing.
+-- The two halves agree: agrees, agrees-after-any-past, agrees-broadcast. Assumes nothing.
 use mathlib.Core.Path.{_≡_, refl, sym, _∙_}
 use Prim.Native.Nat.{ℕ, _+_, _*_, _≤_}
 use mathlib.Core.Bool.{true, false}
@@ -6,26 +6,27 @@ use mathlib.Core.List.{List}
 use native.Mathlib.Omega.{arith}
 use lib.Dec.{eqb}
 use lib.ListN.{length, take, length-take}
-use borrow.Author.Tests.{le-leb, lt-ltb, ltb-true, eqb-true}
-use Rattle.words.specs.Words.{onClock, wordTicks, dueDistance, addressOf, isBroadcast}
+use borrow.Author.Tests.{le-leb, le-ltb, lt-ltb, ltb-true, eqb-true}
+use Rattle.words.specs.Words.{onClock, sinceOf, wordTicks, dueDistance, addressOf, isBroadcast}
 use Rattle.words.specs.Refusals.{notRefused}
 use Rattle.words.specs.declared.times.Moment.{Moment}
 use Rattle.terminal.specs.Commands.{isLegal}
 use Rattle.terminal.specs.Messages.{isDue}
-use Rattle.terminal.specs.Settling.{isShut, isWithheld, answerOf}
+use Rattle.terminal.specs.Settling.{isShut, isWithheld, noAnswer, answerOf}
 use Rattle.terminal.specs.Rules.{statusNow, replyNow, rule1Answer}
 use Rattle.terminal.specs.declared.states.Terminal.{Terminal as State}
 use Rattle.terminal.specs.declared.answers.Answer.{Answer}
 use Rattle.terminal.specs.declared.answers.Reply.{Reply}
 use Rattle.history.specs.States.{Waiting, Sound}
-use Rattle.history.proofs.Tests.{true≢, or-false, or-cases}
+use Rattle.history.proofs.Tests.{true≢, cond-same, or-false, or-cases}
 use Rattle.history.proofs.Phases.{due-under-way}
 use Rattle.history.proofs.Reached.{reachable}
 use Rattle.verdict.specs.Plans.{isPossible, planRefusal, partOf, backOf, expectedOf}
-use Rattle.verdict.specs.Facts.{listenedLeast}
-use Rattle.agreement.specs.Agreement.{planOf, statusHeard, JudgedSo, Agrees, AgreesAfterAnyPast}
+use Rattle.verdict.specs.Facts.{listenedLeast, endOf}
+use Rattle.verdict.specs.Verdicts.{verdictOver, verdictOf}
+use Rattle.agreement.specs.Agreement.{planFor, statusHeard, JudgedSo, Agrees, AgreesAfterAnyPast, AgreesBroadcast}
 use Rattle.agreement.proofs.Replies.{legal-single, reply-sends}
-use Rattle.agreement.proofs.Heard.{answer-verdict}
+use Rattle.agreement.proofs.Heard.{answer-verdict, answer-taken}
 use Rattle.agreement.proofs.Statuses.{address-settled, good-ready}
 
 -- ---- a sound terminal, and what the statement takes for given
@@ -72,12 +73,12 @@ module _ (s : State) (sound : Sound s) (t : ℕ) (transmit : List ℕ) (sized : 
   answer-given = rw (due, shown)
 
   -- the plan expects a status and the data words of the command
-  plan-expects : expectedOf (planOf s until) ≡ partOf w
+  plan-expects : expectedOf (planFor s until) ≡ partOf w
   unfolding expectedOf backOf
   plan-expects = rw not-broadcast
 
   -- the plan is possible
-  plan-possible : s .message .last .0 ≤ until .0 → planRefusal (planOf s until) ≡ notRefused
+  plan-possible : s .message .last .0 ≤ until .0 → planRefusal (planFor s until) ≡ notRefused
   unfolding planRefusal isPossible
   plan-possible later =
       let waiting = waits in
@@ -90,9 +91,11 @@ module _ (s : State) (sound : Sound s) (t : ℕ) (transmit : List ℕ) (sized : 
   answer-judged listened =
       let words : List ℕ = take (reply .count) (reply .words) in
       let few : length words ≤ reply .count = simp length-take (omega arith) in
+      let waiting = waits in
       record {
-        possible = plan-possible (omega arith);
-        verdict = answer-verdict (planOf s until) w plan-expects (s .message .bus) (statusNow s) words (address-settled s w sound ∙ sym own)
+        not-refused = plan-possible (omega arith);
+        accepted = answer-taken (planFor s until) (waiting .bus) clock (s .message .last .0) (statusNow s) words (omega arith);
+        verdict = answer-verdict (planFor s until) w plan-expects (s .message .bus) (statusNow s) words (address-settled s w sound ∙ sym own)
             (omega arith)
             (λ clear. reply-sends s w transmit sized legal (good-ready s w legal (statusHeard answer) refl clear));
       }
@@ -109,3 +112,12 @@ agrees = judged
 
 pub agrees-after-any-past : AgreesAfterAnyPast
 agrees-after-any-past address receive transmit past = agrees _ (reachable address receive transmit past)
+
+-- ---- to all terminals
+
+pub agrees-broadcast : AgreesBroadcast
+unfolding rule1Answer answerOf isWithheld verdictOf verdictOver expectedOf backOf endOf
+agrees-broadcast s t transmit all until listened = (
+  rw all (cond-same (isDue (s .message) t) noAnswer),
+  rw (all, le-ltb (sinceOf (s .message .last .0) (until .0)) listenedLeast (omega arith)),
+)

@@ -1,23 +1,25 @@
 -- The facts of the words of an answer as they are heard. Assumes nothing.
 use mathlib.Core.Path.{_≡_, refl, sym, _∙_}
-use Prim.Native.Nat.{ℕ, _+_, _-_, _*_, _≤_, _<_}
+use Prim.Native.Nat.{ℕ, zero, suc, _+_, _-_, _*_, _≤_, _<_}
 use mathlib.Core.Bool.{Bool, true, cond, _||_}
 use mathlib.Core.List.{List, [], _∷_}
 use native.Mathlib.Omega.{arith}
-use lib.Dec.{eqb}
-use lib.ListN.{length}
-use borrow.Author.Tests.{lt-ltb, le-ltb, eq-eqb, eqb-true}
-use Rattle.words.specs.Words.{wordTicks, dueDistance, addressOf, parityOf, isSpaced, isValid, commandSync, dataSync}
+use lib.Dec.{eqb, lit≤}
+use lib.ListN.{length, replicate}
+use borrow.Author.Tests.{lt-ltb, ltb-true, le-ltb, le-leb, eq-eqb, eqb-true}
+use Rattle.words.specs.Words.{onClock, wordTicks, dueDistance, addressOf, parityOf, isSpaced, isValid, commandSync, dataSync}
+use Rattle.words.specs.Refusals.{notRefused}
+use Rattle.records.specs.Records.{inRange}
 use Rattle.words.proofs.Oddness.{parity-one}
 use Rattle.words.proofs.Inverse.{gaps}
 use Rattle.history.proofs.Tests.{cond-cases}
 use Rattle.verdict.specs.Plans.{isUnjudged, sentOf, partOf, expectedOf}
 use Rattle.verdict.specs.Numbers.{good}
 use Rattle.verdict.specs.Facts.{listenedLeast, flagFact, statusFact, dataFact, factOf, endOf}
-use Rattle.verdict.specs.Verdicts.{verdictFrom, verdictOf}
+use Rattle.verdict.specs.Verdicts.{recordRefusal, verdictOver, verdictOf}
 use Rattle.verdict.specs.declared.plans.Plan.{Plan}
-use Rattle.verdict.proofs.Places.{part-data, part-nothing}
-use Rattle.agreement.specs.Agreement.{heardAt, dataFrom}
+use Rattle.verdict.specs.declared.plans.Expected.the-variants.{Data}
+use Rattle.agreement.specs.Agreement.{heardAt, dataFrom, Accepted}
 
 -- ---- a word
 
@@ -53,18 +55,17 @@ first-decides fact rest goes-on =
     (λ none. let clear = eqb-true fact good none in goes-on clear ∙ sym clear)
     (λ some. refl)
 
-module _ (plan : Plan) (w : ℕ) (back : expectedOf plan ≡ partOf w) (bus : ℕ) where
-  -- data words from a place on, as many as are expected, are good
-  data-good : (words : List ℕ) (place last : ℕ) → 0 < place → place + length words ≡ sentOf w + 1
-      → last + wordTicks * length words + listenedLeast ≤ plan .until .0
-      → verdictFrom plan place last (dataFrom (last + wordTicks) bus words) ≡ good
-  unfolding verdictFrom dataFrom factOf endOf
-  data-good [] place last past all listened =
-      rw (back, part-nothing w place (omega arith) (omega arith), le-ltb (plan .until .0 - last) listenedLeast (omega arith))
-  data-good (word ∷ words) place last past all listened =
-      rw (back, part-data w place (omega arith) (omega arith), data-fact last bus word)
-      (data-good words (place + 1) (last + wordTicks) (omega arith) (omega arith) (omega arith))
+-- data words, as many as are expected, are good
+data-good : (bus : ℕ) (words : List ℕ) (n last until : ℕ) → length words ≡ n → last + wordTicks * length words + listenedLeast ≤ until
+    → verdictOver (replicate n Data) last until (dataFrom (last + wordTicks) bus words) ≡ good
+unfolding verdictOver dataFrom factOf endOf
+data-good bus [] zero last until all listened = rw (le-ltb (until - last) listenedLeast (omega arith))
+data-good bus [] (suc n) last until all listened = absurd (omega arith)
+data-good bus (word ∷ words) zero last until all listened = absurd (omega arith)
+data-good bus (word ∷ words) (suc n) last until all listened =
+    rw (data-fact last bus word) (data-good bus words n (last + wordTicks) until (omega arith) (omega arith))
 
+module _ (plan : Plan) (w : ℕ) (back : expectedOf plan ≡ partOf w) (bus : ℕ) where
   -- the due time, and what a status word shows then
   abbrev due : ℕ
   due = plan .last .0 + dueDistance
@@ -77,7 +78,36 @@ module _ (plan : Plan) (w : ℕ) (back : expectedOf plan ≡ partOf w) (bus : �
       → due + wordTicks * length words + listenedLeast ≤ plan .until .0
       → (shownBy status ≡ good → length words ≡ sentOf w)
       → verdictOf plan (heardAt due bus commandSync status ∷ dataFrom (due + wordTicks) bus words) ≡ shownBy status
-  unfolding verdictOf verdictFrom factOf
+  unfolding verdictOf verdictOver factOf
   answer-verdict status words from listened full =
       rw (back, status-fact (plan .last .0) bus status (addressOf w) (isUnjudged w) from)
-      (first-decides (shownBy status) _ (λ clear. data-good words 1 due (omega arith) (omega (arith, full clear)) listened))
+      (first-decides (shownBy status) _ (λ clear. data-good bus words (sentOf w) due (plan .until .0) (full clear) listened))
+
+-- ---- they are taken
+
+module _ (plan : Plan) (bus-range : plan .bus ≤ 1) (clock : onClock (plan .until .0) ≡ true) where
+  -- a word after another and not after Q
+  word-taken : (before time sync word : ℕ) → sync ≤ 2 → before < time → time ≤ plan .until .0
+      → (inRange (heardAt time (plan .bus) sync word) ≡ true) × (recordRefusal plan before (heardAt time (plan .bus) sync word) ≡ notRefused)
+  unfolding recordRefusal
+  word-taken before time sync word few later in-time =
+      let on-clock : onClock time ≡ true = omega (arith, lt-ltb, ltb-true) in
+      let parity = parity-one word in (
+        rw (on-clock, le-leb (plan .bus) 1 bus-range, le-leb sync 2 few, le-leb (parityOf word) 1 (omega (arith, parity .0))),
+        rw (eq-eqb (plan .bus) (plan .bus) refl, lt-ltb before time later, le-leb time (plan .until .0) in-time),
+      )
+
+  data-taken : (words : List ℕ) (last : ℕ) → last + wordTicks * length words ≤ plan .until .0
+      → Accepted plan last (dataFrom (last + wordTicks) (plan .bus) words)
+  unfolding dataFrom
+  data-taken [] last in-time = tt
+  data-taken (word ∷ words) last in-time =
+      let first = word-taken last (last + wordTicks) dataSync word (lit≤ tt) (omega arith) (omega arith) in
+      (first .0, first .1, data-taken words (last + wordTicks) (omega arith))
+
+  pub answer-taken : (last status : ℕ) (words : List ℕ) → last + dueDistance + wordTicks * length words ≤ plan .until .0
+      → Accepted plan last
+      (heardAt (last + dueDistance) (plan .bus) commandSync status ∷ dataFrom (last + dueDistance + wordTicks) (plan .bus) words)
+  answer-taken last status words in-time =
+      let first = word-taken last (last + dueDistance) commandSync status (lit≤ tt) (omega arith) (omega arith) in
+      (first .0, first .1, data-taken words (last + dueDistance) in-time)

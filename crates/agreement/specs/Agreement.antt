@@ -5,13 +5,14 @@ use Prim.Native.Nat.{ℕ, _+_, _*_, _≤_}
 use mathlib.Core.Bool.{true, false, cond}
 use mathlib.Core.List.{List, [], _∷_}
 use lib.ListN.{length, take}
-use Rattle.words.specs.Words.{onClock, wordTicks, parityOf, commandSync, dataSync}
+use Rattle.words.specs.Words.{onClock, isBroadcast, wordTicks, parityOf, commandSync, dataSync}
 use Rattle.words.specs.Refusals.{notRefused}
 use Rattle.words.specs.declared.times.Moment.{Moment}
+use Rattle.records.specs.Records.{inRange}
 use Rattle.records.specs.declared.forms.WordRecord.{WordRecord}
 use Rattle.terminal.specs.Commands.{isLegal}
 use Rattle.terminal.specs.Messages.{isDue}
-use Rattle.terminal.specs.Settling.{isWithheld}
+use Rattle.terminal.specs.Settling.{isWithheld, noAnswer}
 use Rattle.terminal.specs.Rules.{rule1Answer}
 use Rattle.terminal.specs.declared.states.Terminal.{Terminal as State}
 use Rattle.terminal.specs.declared.answers.Answer.{Answer}
@@ -20,7 +21,7 @@ use Rattle.history.specs.States.{Sound}
 use Rattle.verdict.specs.Plans.{planRefusal, isUnjudged}
 use Rattle.verdict.specs.Numbers.{good}
 use Rattle.verdict.specs.Facts.{listenedLeast, flagFact}
-use Rattle.verdict.specs.Verdicts.{verdictOf}
+use Rattle.verdict.specs.Verdicts.{recordRefusal, verdictOf}
 use Rattle.verdict.specs.declared.plans.Plan.{Plan}
 
 -- ---- the answer on the bus
@@ -42,10 +43,12 @@ statusHeard a = heardAt (a .due .0) (a .bus) commandSync (a .status .0)
 abbrev pub answerHeard : Answer → List WordRecord
 answerHeard a = statusHeard a ∷ dataFrom (a .due .0 + wordTicks) (a .bus) (take (a .count) (a .words))
 
--- ---- the controller's plan of the message
+-- ---- the controller's plan
 
-abbrev pub planOf : State → Moment → Plan
-planOf s until = record {
+-- Of a message with one command. Between terminals the terminal no longer holds the second command: there this is the receiver's part alone, from
+-- the last data word that it heard.
+abbrev pub planFor : State → Moment → Plan
+planFor s until = record {
   commands = 1;
   first = s .message .command;
   second = record { 0 = 0 };
@@ -56,10 +59,17 @@ planOf s until = record {
 
 -- ---- the statement
 
--- that the plan is possible, and its verdict: "Message error: 8. Busy: 9. The last two aren't given for mode codes 2 and 18.", else good
+-- the records are taken: in range, of the plan's bus, each later than the one before, none after Q
+abbrev pub Accepted : Plan → ℕ → List WordRecord → Type 0
+Accepted plan before [] = Unit {0}
+Accepted plan before (r ∷ rs) = (inRange r ≡ true) × (recordRefusal plan before r ≡ notRefused) × Accepted plan (r .time .0) rs
+
+-- The plan is not refused, nor is a record of the answer; and the verdict: "Message error: 8. Busy: 9. The last two aren't given for mode codes 2
+-- and 18.", else good.
 pub record JudgedSo (s : State) (a : Answer) (until : Moment) : Type 0 where
-  pub possible : planRefusal (planOf s until) ≡ notRefused
-  pub verdict : verdictOf (planOf s until) (answerHeard a) ≡ cond (isUnjudged (s .message .command .0)) good (flagFact (statusHeard a))
+  pub not-refused : planRefusal (planFor s until) ≡ notRefused
+  pub accepted : Accepted (planFor s until) (s .message .last .0) (answerHeard a)
+  pub verdict : verdictOf (planFor s until) (answerHeard a) ≡ cond (isUnjudged (s .message .command .0)) good (flagFact (statusHeard a))
 
 abbrev pub AgreesFrom : State → Type 0
 AgreesFrom s =
@@ -80,3 +90,10 @@ Agrees = (s : State) → Sound s → AgreesFrom s
 -- agrees-after-any-past
 abbrev pub AgreesAfterAnyPast : Type 0
 AgreesAfterAnyPast = (address : ℕ) (receive transmit : List ℕ) (past : List Call) → AgreesFrom (afterPast address receive transmit past)
+
+-- agrees-broadcast: to a command to all terminals nothing is answered, and nothing is judged good
+abbrev pub AgreesBroadcast : Type 0
+AgreesBroadcast =
+    (s : State) (t : ℕ) (transmit : List ℕ) → isBroadcast (s .message .command .0) ≡ true
+    → (until : Moment) → s .message .last .0 + listenedLeast ≤ until .0
+    → (rule1Answer s t transmit ≡ noAnswer) × (verdictOf (planFor s until) [] ≡ good)
