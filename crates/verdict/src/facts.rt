@@ -13,14 +13,14 @@ use words::StatusWord;
 use words::Ticks;
 
 // "nothing with a gap up to 140", "Gap below 40", "Above 120"
-const RESPONSE_MOST: u64 = 140;
+const RESPONSE_MOST: Ticks = Ticks(140);
 
-const GAP_LEAST: u64 = 40;
+const GAP_LEAST: Ticks = Ticks(40);
 
-const GAP_MOST: u64 = 120;
+const GAP_MOST: Ticks = Ticks(120);
 
 // "2 if Q is below the last word plus 220"
-const LISTENED_LEAST: u64 = 220;
+const LISTENED_LEAST: Ticks = Ticks(220);
 
 // Gives what the flags of a status show.
 fn flag_fact(heard: WordRecord) -> Verdict
@@ -41,13 +41,13 @@ fn status_fact(address: u16, unjudged: bool, last: Moment, heard: WordRecord) ->
     ensures fact { λ r. ⌜ r .0 ≡ statusFact address unjudged (last .0) heard ⌝ }
 {
     let gap = words::gap(last, heard.time).0;
-    if gap > RESPONSE_MOST {
+    if gap > RESPONSE_MOST.0 {
         return Verdict::NO_RESPONSE;
     }
-    if gap < GAP_LEAST {
+    if gap < GAP_LEAST.0 {
         return Verdict::EARLY;
     }
-    if gap > GAP_MOST {
+    if gap > GAP_MOST.0 {
         return Verdict::LATE;
     }
     if !words::is_valid(heard.sync, heard.faults, heard.word, heard.parity) {
@@ -112,7 +112,7 @@ impl Expected {
                 Verdict::WAITING
             }
             Expected::Nothing => {
-                if listened < LISTENED_LEAST {
+                if listened < LISTENED_LEAST.0 {
                     return Verdict::WAITING;
                 }
                 Verdict::GOOD

@@ -29,7 +29,7 @@ enum-told-3 c = search needs
 
 returns-3 : tie.Need-returns-3
 unfolding endOf
-returns-3 c = rw (c .before .enum-told3 .given .1, ← c .before .before .before .since .ensures, lt-ltb _ _ (c .if3 .taken))
+returns-3 c = rw (c .before .before .enum-told3 .given .1, ← c .before .before .before .before .since .ensures, lt-ltb _ _ (c .if3 .taken))
 
 returns-4 : tie.Need-returns-4
 unfolding endOf
@@ -41,7 +41,7 @@ returns-5 c = rw (c .before .before .enum-told2 .given .1, ← c .before .before
 
 returns-6 : tie.Need-returns-6
 unfolding endOf
-returns-6 c = rw (c .before .enum-told3 .given .1, ← c .before .before .before .since .ensures, le-ltb _ _ (c .if3 .left))
+returns-6 c = rw (c .before .before .enum-told3 .given .1, ← c .before .before .before .before .since .ensures, le-ltb _ _ (c .if3 .left))
 
 pub end-spec : {M : Type 1} → statement M
 end-spec =
