@@ -1,0 +1,71 @@
+-- `put_words` is safe and ends: the measure is what is left of the words. Assumes nothing.
+use Prim.Native.Nat.{_-_}
+use lib.ListN.{length}
+use borrow.Author.Needs.{needs}
+use Rattle.cards.proofs.outputs.put_words.Statement.{statement}
+use Rattle.cards.proofs.outputs.put_words.Tie as tie
+
+abbrev Inv-loop : tie.InvT-loop
+Inv-loop out₀ at words place₀ i₀ t6 t7 out place i = Unit {0}
+
+abbrev μ-loop : tie.MeasureT-loop
+μ-loop out₀ at words place₀ i₀ t6 t7 out place i = length words - i
+
+loop-holds : tie.Need-loop-holds Inv-loop μ-loop
+loop-holds c = tt
+
+slice-aggregate-put-word : tie.Need-slice-aggregate-put-word Inv-loop μ-loop
+slice-aggregate-put-word c = search needs
+
+mul-put-word : tie.Need-mul-put-word Inv-loop μ-loop
+mul-put-word c = search needs
+
+shared-slice-read-put-word : tie.Need-shared-slice-read-put-word Inv-loop μ-loop
+shared-slice-read-put-word c = search needs
+
+put-word-requires : tie.Need-put-word-requires Inv-loop μ-loop
+put-word-requires c κs = tt
+
+slice-aggregate-put-word-2 : tie.Need-slice-aggregate-put-word-2 Inv-loop μ-loop
+slice-aggregate-put-word-2 c = search needs
+
+mul-put-word-2 : tie.Need-mul-put-word-2 Inv-loop μ-loop
+mul-put-word-2 c = search needs
+
+shared-slice-read-put-word-2 : tie.Need-shared-slice-read-put-word-2 Inv-loop μ-loop
+shared-slice-read-put-word-2 c = search needs
+
+put-word-requires-2 : tie.Need-put-word-requires-2 Inv-loop μ-loop
+put-word-requires-2 c κs = tt
+
+add-i : tie.Need-add-i Inv-loop μ-loop
+add-i c = search needs
+
+loop-less : tie.Need-loop-less Inv-loop μ-loop
+loop-less c = search needs
+
+loop-again : tie.Need-loop-again Inv-loop μ-loop
+loop-again c = tt
+
+returns : tie.Need-returns Inv-loop μ-loop
+returns c = tt
+
+pub put-words-spec : {M : Type 1} → statement M
+put-words-spec =
+    tie.close
+    (tie.spec
+    Inv-loop
+    μ-loop
+    loop-holds
+    slice-aggregate-put-word
+    mul-put-word
+    shared-slice-read-put-word
+    put-word-requires
+    slice-aggregate-put-word-2
+    mul-put-word-2
+    shared-slice-read-put-word-2
+    put-word-requires-2
+    add-i
+    loop-less
+    loop-again
+    returns)
