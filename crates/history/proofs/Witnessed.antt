@@ -5,12 +5,12 @@ use Rattle.terminal.specs.Events.{setUpRefusal, setUpOf}
 use Rattle.terminal.proofs.Bench.{whole}
 use Rattle.history.specs.Calls.{step, run}
 use Rattle.history.specs.Courses.{over, between, word}
-use Rattle.history.specs.Witnesses.{hears, allLegal, benchAfter, past, asked, noise, sent, given, first, answersTo, answersAt1660, allLost, opening, message, losses, atAll, eventLost}
+use Rattle.history.specs.Witnesses.{hears, allLegal, benchAfter, past, asked, noise, sent, given, first, answersTo, answersAt1660, allLost, itsData, opening, message, losses, atAll, eventLost}
 use Rattle.history.specs.Demands.{Witness, Needed}
 
 -- every definition that a history runs through
 unfoldable histories : Unit {0}
-unfolding whole setUpRefusal setUpOf step run hears allLegal benchAfter past asked noise sent given first answersTo answersAt1660 allLost opening message losses atAll eventLost
+unfolding whole setUpRefusal setUpOf step run hears allLegal benchAfter past asked noise sent given first answersTo answersAt1660 allLost itsData opening message losses atAll eventLost
 histories = tt
 
 -- the plain message is answered, and no message with a broken premise is

@@ -102,6 +102,10 @@ unfoldable pub allLost : List (List Call) → Bool
 allLost [] = true
 allLost (calls ∷ rest) = not (answersAt1660 calls) && allLost rest
 
+-- the two data words of the message
+unfoldable pub itsData : List Call
+itsData = hears (dataWord 0 1200 0x0007) ∷ hears (dataWord 0 1400 0x0009) ∷ []
+
 -- the message, with its first data word at 1200; its second at 1400
 unfoldable pub opening : List Call
 opening = hears (command 0 1000 0x2842) ∷ hears (dataWord 0 1200 0x0007) ∷ []
@@ -112,20 +116,20 @@ message = opening ++ (hears (dataWord 0 1400 0x0009) ∷ [])
 unfoldable pub losses : List (List Call)
 losses =
     -- not accepted: a table of the command's event is too short
-    (event (command 0 1000 0x2842) [] zeros ∷ hears (dataWord 0 1200 0x0007) ∷ hears (dataWord 0 1400 0x0009) ∷ [])
+    (event (command 0 1000 0x2842) [] zeros ∷ itsData)
     -- not valid: parity
-    ∷ (hears (heard 0 1000 commandSync 0x2842 (1 - parityOf 0x2842)) ∷ hears (dataWord 0 1200 0x0007) ∷ hears (dataWord 0 1400 0x0009) ∷ [])
+    ∷ (hears (heard 0 1000 commandSync 0x2842 (1 - parityOf 0x2842)) ∷ itsData)
     -- no command: data sync
-    ∷ (hears (dataWord 0 1000 0x2842) ∷ hears (dataWord 0 1200 0x0007) ∷ hears (dataWord 0 1400 0x0009) ∷ [])
+    ∷ (hears (dataWord 0 1000 0x2842) ∷ itsData)
     -- not to the own address: to 6, and to all
-    ∷ (hears (command 0 1000 0x3042) ∷ hears (dataWord 0 1200 0x0007) ∷ hears (dataWord 0 1400 0x0009) ∷ [])
-    ∷ (hears (command 0 1000 0xF842) ∷ hears (dataWord 0 1200 0x0007) ∷ hears (dataWord 0 1400 0x0009) ∷ [])
+    ∷ (hears (command 0 1000 0x3042) ∷ itsData)
+    ∷ (hears (command 0 1000 0xF842) ∷ itsData)
     -- still sending on the bus: 2C42 at 600 is due at 860 and sent until 1460
     ∷ (hears (command 0 600 0x2C42) ∷ message)
     -- its transmitter is shut: 2C04 on B
     ∷ (hears (command 1 100 0x2C04) ∷ hears (mark 360) ∷ message)
     -- a second command word, to 6: then a status from 6 is awaited, and a data word is a fault
-    ∷ (hears (command 0 1000 0x2842) ∷ hears (command 0 1195 0x3442) ∷ hears (dataWord 0 1200 0x0007) ∷ hears (dataWord 0 1400 0x0009) ∷ [])
+    ∷ (hears (command 0 1000 0x2842) ∷ hears (command 0 1195 0x3442) ∷ itsData)
     -- a data word is missing, not accepted, not valid, with command sync, on the other bus, 194 and 206 after the word before
     ∷ opening
     ∷ (opening ++ (event (dataWord 0 1400 0x0009) zeros [] ∷ []))
@@ -146,11 +150,12 @@ losses =
     ∷ (message ++ (hears (mark 1660) ∷ []))
     ∷ []
 
--- the event before the due time; the event not accepted, for a table too short; a terminal of address 31, which no set-up gives
+-- a terminal of address 31, which no set-up gives, with such a message
 unfoldable pub atAll : State
 atAll = run (freshOf (record { address = 31; receive = allLegal; transmit = allLegal }))
-    (hears (command 0 1000 0xF842) ∷ hears (dataWord 0 1200 0x0007) ∷ hears (dataWord 0 1400 0x0009) ∷ [])
+    (hears (command 0 1000 0xF842) ∷ itsData)
 
+-- the event before the due time; the event not accepted, for a table too short; the address 31
 unfoldable pub eventLost : Bool
 eventLost =
     not (answersTo (benchAfter message) (mark 1659) zeros)
