@@ -67,7 +67,7 @@ pub record Carried (begun : State) (r : WordRecord) (words : List ℕ) (ks : Lis
       → NoOwn (step (run begun ks) (event e receive transmit)) more
       → (k : Call)
       → answerIn (run (step (run begun ks) (event e receive transmit)) more) k ≡ noAnswer
-  -- and no call ever after carries it again, where e brings such a command too: any later answer is due more than this one
+  -- and no call ever after carries it again, also where e brings such a command: until a set-up, every later answer is due 260 after e or later
   pub later : (more : List Call)
       → NoSetUp (step (run begun ks) (event e receive transmit)) more
       → (k : Call)
