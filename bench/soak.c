@@ -2,12 +2,12 @@
  * end. soak N [SEED [EVERY]]: seed 1 and a line every 100,000 calls where nothing is said.
  * Standard error: nanoseconds a call, over the first 1,000,000 calls at most, made beforehand in batches, so that
  * neither the stream nor the checksum is in the time. Under an emulator it says nothing about the card. */
+#include "common.h"
 #include "soak.h"
 
 #include <stdio.h>
 #include <stdlib.h>
 #include <string.h>
-#include <time.h>
 
 #define TIMED_MOST 1000000
 #define BATCH 1024
@@ -31,49 +31,10 @@ static unsigned set_up(bench *b, const soak_call *c)
     return plain_setup(&b->terminal, c->address, masks[0], c->receive, masks[1], c->transmit);
 }
 
-static void host_call(bench *b, const soak_call *c)
-{
-    plain_terminal *t = &b->terminal;
-    switch (c->kind) {
-    case SOAK_SERVICE:
-        plain_set_service(t, c->value);
-        break;
-    case SOAK_BUSY:
-        plain_set_busy(t, c->value);
-        break;
-    case SOAK_SUBSYSTEM:
-        plain_set_subsystem(t, c->value);
-        break;
-    case SOAK_FAULT:
-        plain_set_fault(t, c->value);
-        break;
-    case SOAK_VECTOR:
-        plain_set_vector(t, c->value);
-        break;
-    case SOAK_BIT:
-        plain_set_bit(t, c->value);
-        break;
-    case SOAK_CLEAR:
-        plain_clear_self_test(t);
-        break;
-    case SOAK_SEND:
-        b->transmit[c->place] = c->value;
-        break;
-    case SOAK_RESTART:
-        plain_restart(t);
-        break;
-    }
-}
-
-static int is_event(const soak_call *c)
-{
-    return c->kind == SOAK_RECORD || c->kind == SOAK_MARK;
-}
-
 /* The call's refusal, or 0; an accepted event's result. */
 static unsigned play(bench *b, const soak_call *c, plain_result *result)
 {
-    if (is_event(c)) {
+    if (soak_is_event(c)) {
         plain_tables tables = {b->receive, c->receive, b->transmit, c->transmit};
         if (c->kind == SOAK_RECORD)
             return plain_event_record(&b->terminal, &c->record, &tables, result);
@@ -81,7 +42,7 @@ static unsigned play(bench *b, const soak_call *c, plain_result *result)
     }
     if (c->kind == SOAK_SETUP)
         return set_up(b, c);
-    host_call(b, c);
+    soak_host_call(&b->terminal, b->transmit, c);
     return 0;
 }
 
@@ -148,7 +109,7 @@ static void soak(uint64_t calls, uint64_t seed, uint64_t every)
     for (uint64_t n = 1; n <= calls; n++) {
         soak_call c = soak_call_next(&stream);
         unsigned refused = play(&b, &c, &result);
-        int accepted = is_event(&c) && !refused;
+        int accepted = soak_is_event(&c) && !refused;
         add(&b, refused, 1);
         if (accepted)
             add_result(&b, &result);
@@ -158,13 +119,6 @@ static void soak(uint64_t calls, uint64_t seed, uint64_t every)
         if (n % every == 0 || n == calls)
             printf("soak %llu %016llX\n", (unsigned long long)n, (unsigned long long)b.sum);
     }
-}
-
-static double now(void)
-{
-    struct timespec t;
-    clock_gettime(CLOCK_MONOTONIC, &t);
-    return (double)t.tv_sec * 1e9 + (double)t.tv_nsec;
 }
 
 static void speed(uint64_t calls, uint64_t seed)

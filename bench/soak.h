@@ -530,8 +530,47 @@ static soak_call soak_call_next(soak_stream *g)
     return g->fixed < 65536 ? soak_fixed(g) : soak_mixed(g);
 }
 
+static int soak_is_event(const soak_call *c)
+{
+    return c->kind == SOAK_RECORD || c->kind == SOAK_MARK;
+}
+
+/* Makes a host call or a restart, on plain C. */
+static void soak_host_call(plain_terminal *t, uint16_t *transmit, const soak_call *c)
+{
+    switch (c->kind) {
+    case SOAK_SERVICE:
+        plain_set_service(t, c->value);
+        break;
+    case SOAK_BUSY:
+        plain_set_busy(t, c->value);
+        break;
+    case SOAK_SUBSYSTEM:
+        plain_set_subsystem(t, c->value);
+        break;
+    case SOAK_FAULT:
+        plain_set_fault(t, c->value);
+        break;
+    case SOAK_VECTOR:
+        plain_set_vector(t, c->value);
+        break;
+    case SOAK_BIT:
+        plain_set_bit(t, c->value);
+        break;
+    case SOAK_CLEAR:
+        plain_clear_self_test(t);
+        break;
+    case SOAK_SEND:
+        transmit[c->place] = c->value;
+        break;
+    case SOAK_RESTART:
+        plain_restart(t);
+        break;
+    }
+}
+
 /* The masks of an m other than 0: table 0 receive, 1 transmit; 64 each, of which a set-up lends as many as it says. */
-static void soak_masks(uint64_t m, uint32_t masks[2][64])
+static inline void soak_masks(uint64_t m, uint32_t masks[2][64])
 {
     for (unsigned i = 0; i < 128; i++) {
         uint64_t z = soak_mix(m + i);

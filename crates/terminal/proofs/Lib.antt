@@ -5,4 +5,5 @@ pub mod Counts
 pub mod Phases
 pub mod Places
 pub mod Spans
+pub mod Works
 pub mod Wrapped

@@ -5,6 +5,7 @@ pub mod Messages
 pub mod Settling
 pub mod Effects
 pub mod Rules
+pub mod Works
 pub mod Events
 pub mod Cards
 pub mod Theorems

@@ -4,9 +4,9 @@ ghost use mathlib.Core.Path.{_≡_};
 ghost use Prim.Native.Nat.{_+_, _^_, _<_};
 ghost use lib.ListN.{length};
 ghost use Rattle.words.specs.Words.{dueDistance};
+ghost use Rattle.terminal.specs.Commands.{isLegal};
 ghost use Rattle.terminal.specs.Settling.{withIf, settledStatus, noWords, oneWord, tableWords, modeWords, legalReply, replyOf, storesData, isWithheld, noAnswer, answerOf, sendingOf};
 use crate::commands::is_exempt;
-use crate::commands::is_legal;
 use crate::states::Sending;
 use crate::states::Terminal;
 use crate::tables::fetch;
@@ -89,20 +89,21 @@ fn with_if(status: StatusWord, flag: Flag, on: bool) -> StatusWord
 
 impl Terminal {
     // Gives the status that the answer to the command has, and that is stored then.
-    pub(crate) fn settled_status(self, command: CommandWord) -> StatusWord
+    pub(crate) fn settled_status(self, command: CommandWord, legal: bool) -> StatusWord
+        requires { ⌜ legal ≡ isLegal (self .setup) (command .0) ⌝ }
         ensures status { λ r. ⌜ r .0 ≡ settledStatus self (command .0) ⌝ }
     {
-        let setup = self.setup;
+        let own = self.setup.address;
         let host = self.host;
         let stored = self.held.status;
-        if is_exempt(setup.address, command) {
+        if is_exempt(own, command) {
             return stored;
         }
         let service = with_if(stored, Flag::ServiceRequest, host.service);
         let busy = with_if(service, Flag::Busy, host.busy);
         let subsystem = with_if(busy, Flag::Subsystem, host.subsystem);
         let fault = with_if(subsystem, Flag::Terminal, host.fault & !self.held.inhibit);
-        with_if(fault, Flag::MessageError, !is_legal(setup, command))
+        with_if(fault, Flag::MessageError, !legal)
     }
 
     // Gives the data word that a legal mode command asks for.
@@ -137,12 +138,11 @@ impl Terminal {
     }
 
     // Gives the data words of the answer to the command.
-    pub(crate) fn reply(self, command: CommandWord, table: &[u16]) -> Reply
-        requires { ⌜ length (now table) ≡ 1024 ⌝ }
+    pub(crate) fn reply(self, command: CommandWord, legal: bool, table: &[u16]) -> Reply
+        requires { ⌜ (legal ≡ isLegal (self .setup) (command .0)) × (length (now table) ≡ 1024) ⌝ }
         ensures reply { λ r. ⌜ r ≡ replyOf self (command .0) (now (table .entry)) ⌝ }
     {
-        let setup = self.setup;
-        if is_legal(setup, command) {
+        if legal {
             self.legal_reply(command, table)
         } else {
             Reply::none()
@@ -150,11 +150,11 @@ impl Terminal {
     }
 
     // Says whether the message's data words are stored.
-    pub(crate) fn stores_data(self, command: CommandWord) -> bool
+    pub(crate) fn stores_data(self, command: CommandWord, legal: bool) -> bool
+        requires { ⌜ legal ≡ isLegal (self .setup) (command .0) ⌝ }
         ensures answer { λ r. ⌜ r ≡ storesData self (command .0) ⌝ }
     {
-        let setup = self.setup;
-        is_legal(setup, command) & !command.is_mode() & !command.is_transmit() & !self.host.busy
+        legal & !command.is_mode() & !command.is_transmit() & !self.host.busy
     }
 
     // Says whether the answer is withheld.

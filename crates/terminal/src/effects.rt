@@ -1,11 +1,11 @@
 // What a settled mode command does, and what an own command notes (01 The terminal: "Effects come after the answer is composed"; rule 4).
 // Meaning: specs/Effects.antt, specs/Rules.antt. Inner functions: the event calls them. Refusals: none.
 ghost use mathlib.Core.Path.{_≡_};
+ghost use Rattle.terminal.specs.Commands.{isLegal};
 ghost use Rattle.terminal.specs.Settling.{otherBus};
 ghost use Rattle.terminal.specs.Effects.{withStatus, withCommand, withSync, withSelftest, withInhibit, withShut, effectOf, heldAfter};
 ghost use Rattle.terminal.specs.Rules.{notedStatus, notedCommand};
 use crate::commands::is_exempt;
-use crate::commands::is_legal;
 use crate::states::Held;
 use crate::states::Terminal;
 use crate::tables::with_shut;
@@ -129,15 +129,15 @@ impl Held {
 
 impl Terminal {
     // Gives what is held once the message is settled with that status.
-    pub(crate) fn held_after(self, status: StatusWord) -> Held
+    pub(crate) fn held_after(self, status: StatusWord, legal: bool) -> Held
+        requires { ⌜ legal ≡ isLegal (self .setup) (self .message .command .0) ⌝ }
         ensures held { λ r. ⌜ r ≡ heldAfter self (status .0) ⌝ }
     {
-        let setup = self.setup;
-        let own = setup.address;
+        let own = self.setup.address;
         let message = self.message;
         let command = message.command;
         let stored = self.held.with_status(status);
-        if is_legal(setup, command) & command.is_mode() {
+        if legal & command.is_mode() {
             return stored.effect(own, command.count(), message.bus, message.words[0]);
         }
         stored

@@ -2,9 +2,11 @@
 // Refusals: 1, 5, 6.
 ghost use mathlib.Core.Path.{_≡_};
 ghost use lib.ListN.{length};
-ghost use Rattle.terminal.specs.Events.{timeOf, isInRange, eventRefusal, atTime, passedOf, takenOf, cutOf, happensOf, refusedOf, eventOf, eventReceive};
+ghost use Rattle.terminal.specs.Events.{timeOf, isInRange, eventRefusal, atTime, takenOf, cutOf, happensOf, refusedOf, eventOf, eventReceive};
+ghost use Rattle.terminal.specs.Works.{workOf, withWork, bareOf};
 use crate::answers::Answer;
 use crate::states::Terminal;
+use crate::states::Work;
 use records::WordRecord;
 use words::Moment;
 use words::Refusal;
@@ -45,6 +47,28 @@ impl Event {
     }
 }
 
+impl Work {
+    // What the event's record does after rules 1 and 2.
+    fn taken(self, own: u16, event: Event) -> Work
+        ensures work { λ r. ⌜ r ≡ workOf (takenOf (bareOf own self) event) ⌝ }
+    {
+        match event {
+            Event::Mark(_) => self,
+            Event::Word(heard) => self.rules3to6(own, heard),
+        }
+    }
+
+    // Says whether the event's record cuts a sending.
+    fn cuts(self, own: u16, event: Event) -> bool
+        ensures answer { λ r. ⌜ r ≡ cutOf (bareOf own self) event ⌝ }
+    {
+        match event {
+            Event::Mark(_) => false,
+            Event::Word(heard) => self.cuts_sending(own, heard),
+        }
+    }
+}
+
 impl Terminal {
     // Gives the refusal of an event that lends tables of these lengths, or none.
     fn event_refusal(self, event: Event, receive: usize, transmit: usize) -> Refusal
@@ -76,32 +100,22 @@ impl Terminal {
         }
     }
 
-    // The terminal at the time of its last event.
-    fn at(self, time: Moment) -> Terminal
-        ensures terminal { λ r. ⌜ r ≡ atTime self (time .0) ⌝ }
+    // The terminal with that work, at the time of its last event.
+    fn after(self, work: Work, time: Moment) -> Terminal
+        ensures terminal { λ r. ⌜ r ≡ atTime (withWork self work) (time .0) ⌝ }
     {
-        let mut next = self;
-        next.time = time;
-        next
-    }
-
-    // What the event's record does after rules 1 and 2.
-    fn taken(self, event: Event) -> Terminal
-        ensures terminal { λ r. ⌜ r ≡ takenOf self event ⌝ }
-    {
-        match event {
-            Event::Mark(_) => self,
-            Event::Word(heard) => self.rules3to6(heard),
-        }
-    }
-
-    // Says whether the event's record cuts a sending.
-    fn cuts(self, event: Event) -> bool
-        ensures answer { λ r. ⌜ r ≡ cutOf self event ⌝ }
-    {
-        match event {
-            Event::Mark(_) => false,
-            Event::Word(heard) => self.cuts_sending(heard),
+        let setup = self.setup;
+        let host = self.host;
+        let held = work.held;
+        let message = work.message;
+        let sending = work.sending;
+        Terminal {
+            setup,
+            host,
+            held,
+            message,
+            sending,
+            time,
         }
     }
 
@@ -115,13 +129,15 @@ impl Terminal {
     {
         let refusal = self.event_refusal(event, receive.len(), transmit.len());
         if refusal.0 == 0 {
+            let own = self.setup.address;
             let time = event.time();
             let settled = self.rule1(time, receive, transmit);
             let answer = settled.answer;
-            let after = settled.terminal;
-            let passed = after.rule2(time).at(time);
-            let cut = passed.cuts(event);
-            let terminal = passed.taken(event);
+            let work = settled.work;
+            let passed = work.rule2(own, time);
+            let cut = passed.cuts(own, event);
+            let taken = passed.taken(own, event);
+            let terminal = self.after(taken, time);
             return Happened {
                 refusal: Refusal::NONE,
                 answer,

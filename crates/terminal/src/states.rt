@@ -73,6 +73,13 @@ pub struct Terminal {
     pub time: Moment,
 }
 
+// What the rules change of it: an event hands on this alone, and not the masks with it.
+pub struct Work {
+    pub held: Held,
+    pub message: Message,
+    pub sending: Sending,
+}
+
 impl Message {
     // No message under way.
     pub(crate) fn none() -> Message

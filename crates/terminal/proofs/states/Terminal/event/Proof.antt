@@ -3,8 +3,9 @@ use mathlib.Core.Path.{refl, sym, ap, _∙_}
 use lib.ListN.{length}
 use denote.Ref.{now}
 use borrow.Author.Tests.{eq-eqb, ne-eqb}
-use Rattle.terminal.specs.Events.{passedOf, happensOf, refusedOf, eventOf, eventReceive}
+use Rattle.terminal.specs.Events.{timeOf, happensOf, refusedOf, eventOf, eventReceive}
 use Rattle.terminal.proofs.Accepted.{event-tables}
+use Rattle.terminal.proofs.Works.{passedWork, passed, taken-after, cut-after}
 use borrow.Author.Needs.{needs}
 use Rattle.terminal.proofs.states.Terminal.event.Statement.{statement}
 use Rattle.terminal.proofs.states.Terminal.event.Tie as tie
@@ -23,25 +24,29 @@ rule1-requires c κs =
 rule2-requires : tie.Need-rule2-requires
 rule2-requires c κs = search needs
 
-at-requires : tie.Need-at-requires
-at-requires c κs = search needs
-
 cuts-requires : tie.Need-cuts-requires
 cuts-requires c κs = search needs
 
 taken-requires : tie.Need-taken-requires
 taken-requires c κs = search needs
 
+after-requires : tie.Need-after-requires
+after-requires c κs = search needs
+
 same-length : tie.Need-same-length
 same-length c = search needs
 
 returns : tie.Need-returns
-unfolding eventOf eventReceive happensOf passedOf
+unfolding eventOf eventReceive happensOf
 returns c =
+    let a = c .before .before .before .before .before .before .before .before .before .before .before .before .before .before .before .before .args in
     let none = eq-eqb _ _ (sym (c .before .before .before .before .before .before .before .before .before .before .before .before .before .event-refusal .ensures) ∙ c .before .before .before .before .before .before .before .before .before .before .before .if1 .taken) in
     let time = c .before .before .before .before .before .before .before .before .before .before .time .ensures in
-    let settled = c .before .before .before .before .before .before .before .before .rule1 .ensures in (
-      rw (none, c .taken .ensures, c .before .cuts .ensures, c .before .before .at .ensures, c .before .before .before .rule2 .ensures, settled .1 .0, settled .0, time),
+    let settled = c .before .before .before .before .before .before .before .before .rule1 .ensures in
+    let t = timeOf (a .event) in
+    let transmit = now (a .transmit) in
+    let w = passedWork (a .self) t transmit in (
+      rw (none, passed (a .self) t transmit, taken-after (a .self) w t (a .event), cut-after (a .self) w t (a .event), c .after .ensures, c .before .taken .ensures, c .before .before .cuts .ensures, c .before .before .before .rule2 .ensures, settled .1 .0, settled .0, time),
       rw (none, ← time) (settled .1 .1),
     )
 
@@ -49,7 +54,7 @@ refused-requires : tie.Need-refused-requires
 refused-requires c κs = search needs
 
 returns-2 : tie.Need-returns-2
-unfolding eventOf eventReceive happensOf passedOf
+unfolding eventOf eventReceive
 returns-2 c =
     let refusal = c .before .before .before .event-refusal .ensures in
     let some = ne-eqb _ _ (λ z. c .before .if1 .left (refusal ∙ z)) in
@@ -63,9 +68,9 @@ event-spec =
     time-requires
     rule1-requires
     rule2-requires
-    at-requires
     cuts-requires
     taken-requires
+    after-requires
     same-length
     returns
     refused-requires

@@ -7,9 +7,6 @@ use Rattle.terminal.proofs.states.Terminal.held_after.Tie as tie
 with-status-requires : tie.Need-with-status-requires
 with-status-requires c κs = search needs
 
-is-legal-requires : tie.Need-is-legal-requires
-is-legal-requires c κs = search needs
-
 is-mode-requires : tie.Need-is-mode-requires
 is-mode-requires c κs = search needs
 
@@ -24,18 +21,17 @@ effect-requires c κs = search needs
 
 returns : tie.Need-returns
 unfolding heldAfter
-returns c = rw (← c .before .before .before .before .before .is-legal .ensures, ← c .before .before .before .before .is-mode .ensures, c .before .before .before .if1 .taken, c .effect .ensures, c .before .before .count .ensures, c .before .before .before .before .before .before .with-status .ensures)
+returns c = rw (← c .before .before .before .before .before .before .before .before .pre, ← c .before .before .before .before .is-mode .ensures, c .before .before .before .if1 .taken, c .effect .ensures, c .before .before .count .ensures, c .before .before .before .before .before .with-status .ensures)
 
 returns-2 : tie.Need-returns-2
 unfolding heldAfter
-returns-2 c = rw (← c .before .before .is-legal .ensures, ← c .before .is-mode .ensures, c .if1 .left, c .before .before .before .with-status .ensures)
+returns-2 c = rw (← c .before .before .before .before .before .pre, ← c .before .is-mode .ensures, c .if1 .left, c .before .before .with-status .ensures)
 
 pub held-after-spec : {M : Type 1} → statement M
 held-after-spec =
     tie.close
     (tie.spec
     with-status-requires
-    is-legal-requires
     is-mode-requires
     count-requires
     element-copy-out-effect

@@ -5,9 +5,6 @@ use borrow.Author.Needs.{needs}
 use Rattle.terminal.proofs.states.Terminal.reply.Statement.{statement}
 use Rattle.terminal.proofs.states.Terminal.reply.Tie as tie
 
-is-legal-requires : tie.Need-is-legal-requires
-is-legal-requires c κs = search needs
-
 legal-reply-requires : tie.Need-legal-reply-requires
 legal-reply-requires c κs = search needs
 
@@ -16,12 +13,12 @@ none-requires c κs = search needs
 
 returns : tie.Need-returns
 unfolding replyOf
-returns c = rw (sym (c .before .before .is-legal .ensures) ∙ c .before .if1 .taken, c .legal-reply .ensures)
+returns c = rw (sym (c .before .before .before .pre .0) ∙ c .before .if1 .taken, c .legal-reply .ensures)
 
 returns-2 : tie.Need-returns-2
 unfolding replyOf
-returns-2 c = rw (sym (c .before .before .is-legal .ensures) ∙ c .before .if1 .left, c .none .ensures)
+returns-2 c = rw (sym (c .before .before .before .pre .0) ∙ c .before .if1 .left, c .none .ensures)
 
 pub reply-spec : {M : Type 1} → statement M
 reply-spec =
-    tie.close (tie.spec is-legal-requires legal-reply-requires none-requires returns returns-2)
+    tie.close (tie.spec legal-reply-requires none-requires returns returns-2)

@@ -26,13 +26,16 @@ returns c =
 none-requires : tie.Need-none-requires
 none-requires c κs = search needs
 
+work-requires : tie.Need-work-requires
+work-requires c κs = search needs
+
 returns-2 : tie.Need-returns-2
 unfolding rule1Answer rule1Receive rule1
 returns-2 c =
-    let due = sym (c .before .before .is-due .ensures) ∙ c .before .if1 .left in
-    (rw due (c .none .ensures), (rw due refl, rw due refl))
+    let due = sym (c .before .before .before .is-due .ensures) ∙ c .before .before .if1 .left in
+    (rw due (c .before .none .ensures), (rw due (c .work .ensures), rw due refl))
 
 pub rule1-spec : {M : Type 1} → statement M
 rule1-spec =
     tie.close
-    (tie.spec is-due-requires settle-requires same-length returns none-requires returns-2)
+    (tie.spec is-due-requires settle-requires same-length returns none-requires work-requires returns-2)

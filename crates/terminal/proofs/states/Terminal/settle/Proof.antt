@@ -9,6 +9,9 @@ use borrow.Author.Needs.{needs}
 use Rattle.terminal.proofs.states.Terminal.settle.Statement.{statement}
 use Rattle.terminal.proofs.states.Terminal.settle.Tie as tie
 
+is-legal-requires : tie.Need-is-legal-requires
+is-legal-requires c κs = search needs
+
 settled-status-requires : tie.Need-settled-status-requires
 settled-status-requires c κs = search needs
 
@@ -20,7 +23,7 @@ store-data-requires c κs = search needs
 
 sending-requires : tie.Need-sending-requires
 sending-requires c κs =
-    let a = c .before .before .before .before .before .before .before .before .before in
+    let a = c .before .before .before .before .before .before .before .before .before .before .before in
     (a .pre .2, omega (arith, reply-most (a .args .self) (a .args .self .message .command .0) (now (a .args .transmit)), ap (λ (r : Reply). r .count) (c .before .before .before .before .reply .ensures)))
 
 held-after-requires : tie.Need-held-after-requires
@@ -30,7 +33,7 @@ none-requires : tie.Need-none-requires
 none-requires c κs = search needs
 
 answer-requires : tie.Need-answer-requires
-answer-requires c κs = c .before .before .before .before .before .before .before .before .before .before .before .before .pre .2
+answer-requires c κs = c .before .before .before .before .before .before .before .before .before .before .before .before .before .before .pre .2
 
 same-length : tie.Need-same-length
 same-length c = search needs
@@ -48,6 +51,7 @@ pub settle-spec : {M : Type 1} → statement M
 settle-spec =
     tie.close
     (tie.spec
+    is-legal-requires
     settled-status-requires
     reply-requires
     store-data-requires

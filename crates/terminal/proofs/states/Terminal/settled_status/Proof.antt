@@ -24,15 +24,12 @@ with-if-requires-3 c κs = search needs
 with-if-requires-4 : tie.Need-with-if-requires-4
 with-if-requires-4 c κs = search needs
 
-is-legal-requires : tie.Need-is-legal-requires
-is-legal-requires c κs = search needs
-
 with-if-requires-5 : tie.Need-with-if-requires-5
 with-if-requires-5 c κs = search needs
 
 returns-2 : tie.Need-returns-2
 unfolding settledStatus
-returns-2 c = rw (sym (c .before .before .before .before .before .before .before .before .before .is-exempt .ensures) ∙ c .before .before .before .before .before .before .before .before .if1 .left, c .with-if5 .ensures, c .before .is-legal .ensures, c .before .before .with-if4 .ensures, c .before .before .before .before .before .with-if3 .ensures, c .before .before .before .before .before .before .with-if2 .ensures, c .before .before .before .before .before .before .before .with-if .ensures)
+returns-2 c = rw (sym (c .before .before .before .before .before .before .before .before .is-exempt .ensures) ∙ c .before .before .before .before .before .before .before .if1 .left, c .with-if5 .ensures, c .before .before .before .before .before .before .before .before .before .before .before .pre, c .before .with-if4 .ensures, c .before .before .before .before .with-if3 .ensures, c .before .before .before .before .before .with-if2 .ensures, c .before .before .before .before .before .before .with-if .ensures)
 
 pub settled-status-spec : {M : Type 1} → statement M
 settled-status-spec =
@@ -44,6 +41,5 @@ settled-status-spec =
     with-if-requires-2
     with-if-requires-3
     with-if-requires-4
-    is-legal-requires
     with-if-requires-5
     returns-2)

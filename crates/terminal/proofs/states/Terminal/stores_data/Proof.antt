@@ -4,9 +4,6 @@ use borrow.Author.Needs.{needs}
 use Rattle.terminal.proofs.states.Terminal.stores_data.Statement.{statement}
 use Rattle.terminal.proofs.states.Terminal.stores_data.Tie as tie
 
-is-legal-requires : tie.Need-is-legal-requires
-is-legal-requires c κs = search needs
-
 is-mode-requires : tie.Need-is-mode-requires
 is-mode-requires c κs = search needs
 
@@ -15,8 +12,8 @@ is-transmit-requires c κs = search needs
 
 returns : tie.Need-returns
 unfolding storesData
-returns c = rw (c .before .is-transmit .ensures, c .before .before .is-mode .ensures, c .before .before .before .is-legal .ensures)
+returns c = rw (c .before .is-transmit .ensures, c .before .before .is-mode .ensures, c .before .before .before .pre)
 
 pub stores-data-spec : {M : Type 1} → statement M
 stores-data-spec =
-    tie.close (tie.spec is-legal-requires is-mode-requires is-transmit-requires returns)
+    tie.close (tie.spec is-mode-requires is-transmit-requires returns)

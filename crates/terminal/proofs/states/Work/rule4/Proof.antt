@@ -1,0 +1,21 @@
+-- What the command notes, begins and cuts. Assumes nothing.
+use Rattle.terminal.specs.Rules.{rule4}
+use borrow.Author.Needs.{needs}
+use Rattle.terminal.proofs.states.Work.rule4.Statement.{statement}
+use Rattle.terminal.proofs.states.Work.rule4.Tie as tie
+
+noted-requires : tie.Need-noted-requires
+noted-requires c κs = search needs
+
+begun-requires : tie.Need-begun-requires
+begun-requires c κs = search needs
+
+none-requires : tie.Need-none-requires
+none-requires c κs = search needs
+
+returns : tie.Need-returns
+unfolding rule4
+returns c = rw (c .none .ensures, c .before .begun .ensures, c .before .before .noted .ensures)
+
+pub rule4-spec : {M : Type 1} → statement M
+rule4-spec = tie.close (tie.spec noted-requires begun-requires none-requires returns)
