@@ -1,4 +1,4 @@
--- What whole of records and files beyond each function's own promise. Each is proved in proofs/ under the name at its side. Assumes
+-- What holds of records and files beyond each function's own promise. Each is proved in proofs/ under the name at its side. Assumes
 -- nothing.
 use Prim.Native.Nat.{ℕ, suc, _^_, _≤_, _<_}
 use mathlib.Core.Path.{_≡_}
