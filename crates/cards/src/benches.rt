@@ -1,29 +1,22 @@
-// The bench: what one line leaves to the next, but for the tables, the masks and the bytes of the buffer, which are lent beside it.
-use crate::outputs::Block;
-use crate::outputs::put;
-use crate::outputs::put_number;
-use crate::outputs::put_text;
+// The bench: what one line leaves to the next, but for the tables and the bytes of the buffer, which are lent beside it.
+use crate::replies::Reply;
+use crate::verdicts::plan_of;
+use terminal::Answer;
 use terminal::Setup;
 use terminal::Terminal;
 use verdict::Plan;
-use words::CommandWord;
 use words::Moment;
 use words::Refusal;
+use words::StatusWord;
 
 // "receive and transmit table of 1,024 zeros"
 pub(crate) const TABLE_WORDS: usize = 1024;
 
-// The longest line that is kept, the tables and the masks with what a line can lend past their ends, the byte buffer, and the output.
-pub(crate) type Line = [u8; 262144];
-
-pub(crate) type Table = [u16; 2048];
-
-pub(crate) type Masks = [u32; 64];
-
-pub(crate) type Buffer = [u8; 65536];
-
 pub(crate) struct Bench {
     pub(crate) terminal: Terminal,
+    // masks for later set-ups, with what a line can lend past those of the subaddresses
+    pub(crate) receive_masks: [u32; 64],
+    pub(crate) transmit_masks: [u32; 64],
     // words of each table that events lend
     pub(crate) receive: usize,
     pub(crate) transmit: usize,
@@ -31,8 +24,26 @@ pub(crate) struct Bench {
     pub(crate) buffered: usize,
     pub(crate) plan: Plan,
     pub(crate) planned: bool,
-    // bytes of output that wait
-    pub(crate) waiting: usize,
+}
+
+// What a call gives: the bench after it, what is to be written, and of an event the answer that it carries and whether a sending was cut.
+pub(crate) struct Done {
+    pub(crate) bench: Bench,
+    pub(crate) reply: Reply,
+    pub(crate) answer: Answer,
+    pub(crate) cut: bool,
+}
+
+// What a call carries that is no event.
+fn no_answer() -> Answer {
+    Answer {
+        given: false,
+        bus: 0,
+        due: Moment(0),
+        status: StatusWord(0),
+        count: 0,
+        words: [0; 32],
+    }
 }
 
 impl Bench {
@@ -44,51 +55,42 @@ impl Bench {
             transmit: [0xFFFF_FFFF; 32],
         };
         let terminal = Terminal::fresh(setup);
-        let plan = Plan {
-            commands: 0,
-            first: CommandWord(0),
-            second: CommandWord(0),
-            bus: 0,
-            last: Moment(0),
-            until: Moment(0),
-        };
+        let plan = plan_of([0; 7]);
         Bench {
             terminal,
+            receive_masks: [0xFFFF_FFFF; 64],
+            transmit_masks: [0xFFFF_FFFF; 64],
             receive: TABLE_WORDS,
             transmit: TABLE_WORDS,
             buffered: 0,
             plan,
             planned: false,
-            waiting: 0,
         }
     }
 
-    // Ends the line of output that reaches to a place.
-    pub(crate) fn ended(self, out: &mut Block, at: usize) -> Bench {
-        let mut next = self;
-        next.waiting = put(out, at, b'\n');
-        next
+    // The bench as it is, and what is to be written.
+    pub(crate) fn replied(self, reply: Reply) -> Done {
+        let answer = no_answer();
+        Done {
+            bench: self,
+            reply,
+            answer,
+            cut: false,
+        }
     }
 
-    pub(crate) fn ok(self, out: &mut Block) -> Bench {
-        let at = put_text(out, self.waiting, b"ok");
-        self.ended(out, at)
+    pub(crate) fn ok(self) -> Done {
+        self.replied(Reply::Ok)
     }
 
     // "A line that is no call .. writes `?` and changes nothing"
-    pub(crate) fn no_call(self, out: &mut Block) -> Bench {
-        let at = put(out, self.waiting, b'?');
-        self.ended(out, at)
+    pub(crate) fn no_call(self) -> Done {
+        self.replied(Reply::NoCall)
     }
 
-    // Writes a line of a name and a number.
-    pub(crate) fn numbered(self, out: &mut Block, name: &[u8], number: u64) -> Bench {
-        let at = put_number(out, self.waiting, name, number);
-        self.ended(out, at)
-    }
-
-    pub(crate) fn refused(self, out: &mut Block, refusal: Refusal) -> Bench {
-        self.numbered(out, b"refused ", refusal.0 as u64)
+    // A refusal leaves all as it was.
+    pub(crate) fn refused(self, refusal: Refusal) -> Done {
+        self.replied(Reply::Refused(refusal))
     }
 
     // The same bench with another terminal.

@@ -25,6 +25,16 @@ impl Gathering {
         }
     }
 
+    // "A line that is empty or begins with `#` writes nothing."
+    pub(crate) fn is_silent(self) -> bool {
+        !self.begun | self.remark
+    }
+
+    // Gives how many bytes the line has, none where it does not fit: a line of none is no call either.
+    pub(crate) fn bytes(self) -> usize {
+        if self.over { 0 } else { self.length }
+    }
+
     // Keeps a byte at the end, where there is room.
     fn kept(self, line: &mut [u8], byte: u8) -> Gathering {
         let mut next = self;

@@ -1,26 +1,27 @@
 // cards: reads a bench script on standard input and writes one line for each call to standard output (bench-script.md; 01 Bench cards).
 // Thin over `terminal`, `verdict` and `records`: here are only lines, numbers and places. Any bytes may come in.
 mod benches;
+mod calls;
 mod events;
+mod fillings;
 mod gatherings;
-mod hosts;
 mod numbers;
 mod outputs;
 mod parts;
+mod replies;
 mod scripts;
 mod setups;
 mod verdicts;
 
-use benches::Bench;
-use benches::Buffer;
-use benches::Line;
-use benches::Masks;
-use benches::Table;
 use gatherings::Gathering;
 use libc::STDIN_FILENO;
 use libc::STDOUT_FILENO;
 use outputs::Block;
+use scripts::Buffer;
+use scripts::Line;
 use scripts::Progress;
+use scripts::Run;
+use scripts::Table;
 use scripts::run_block;
 
 // What a read leaves: whether there may be more, and the progress.
@@ -35,8 +36,6 @@ fn read_block(
     line: &mut Line,
     receive: &mut Table,
     transmit: &mut Table,
-    received: &mut Masks,
-    transmitted: &mut Masks,
     buffer: &mut Buffer,
     out: &mut Block,
 ) -> Turn {
@@ -55,8 +54,6 @@ fn read_block(
         line,
         receive,
         transmit,
-        received,
-        transmitted,
         buffer,
         out,
     );
@@ -71,28 +68,17 @@ fn read_all(
     line: &mut Line,
     receive: &mut Table,
     transmit: &mut Table,
-    received: &mut Masks,
-    transmitted: &mut Masks,
     buffer: &mut Buffer,
     out: &mut Block,
 ) -> Progress {
     let mut progress = Progress {
-        bench: Bench::start(),
+        run: Run::start(),
         gathering: Gathering::none(),
     };
     let mut turns = u64::MAX;
     let mut more = true;
     while turns > 0 && more {
-        let turn = read_block(
-            progress,
-            line,
-            receive,
-            transmit,
-            received,
-            transmitted,
-            buffer,
-            out,
-        );
+        let turn = read_block(progress, line, receive, transmit, buffer, out);
         progress = turn.progress;
         more = turn.more;
         turns -= 1;
@@ -106,22 +92,13 @@ fn finish(
     line: &Line,
     receive: &mut Table,
     transmit: &mut Table,
-    received: &mut Masks,
-    transmitted: &mut Masks,
     buffer: &mut Buffer,
     out: &mut Block,
 ) {
     let gathering = progress.gathering;
-    let last = progress.bench.run_line(
-        gathering,
-        line,
-        receive,
-        transmit,
-        received,
-        transmitted,
-        buffer,
-        out,
-    );
+    let last = progress
+        .run
+        .run_line(gathering, line, receive, transmit, buffer, out);
     io::write_all(STDOUT_FILENO, parts::between(out, 0, last.waiting));
 }
 
@@ -130,16 +107,12 @@ fn main() {
     let mut line = [0u8; 262144];
     let mut receive = [0u16; 2048];
     let mut transmit = [0u16; 2048];
-    let mut received = [0xFFFF_FFFFu32; 64];
-    let mut transmitted = [0xFFFF_FFFFu32; 64];
     let mut buffer = io::large_buffer();
     let mut out = io::large_buffer();
     let progress = read_all(
         &mut line,
         &mut receive,
         &mut transmit,
-        &mut received,
-        &mut transmitted,
         &mut buffer,
         &mut out,
     );
@@ -148,8 +121,6 @@ fn main() {
         &line,
         &mut receive,
         &mut transmit,
-        &mut received,
-        &mut transmitted,
         &mut buffer,
         &mut out,
     );

@@ -10,28 +10,18 @@ const DIGITS_MOST: usize = 20;
 // the largest number that can be taken ten times
 const TENTH: u64 = 1844674407370955161;
 
+// "the receive or transmit mask" of a mask line
+pub(crate) const RECEIVE: u64 = 0;
+
+const TRANSMIT: u64 = 1;
+
+// The letter of a part that reaches to the end of its line, and of none.
+pub(crate) const REST: u8 = b'*';
+
+const NOTHING: u8 = b' ';
+
 pub(crate) enum Number {
     Is(u64),
-    None,
-}
-
-pub(crate) enum Small {
-    Is(u8),
-    None,
-}
-
-pub(crate) enum Half {
-    Is(u16),
-    None,
-}
-
-pub(crate) enum Mask {
-    Is(u32),
-    None,
-}
-
-pub(crate) enum Flag {
-    Is(bool),
     None,
 }
 
@@ -85,7 +75,7 @@ fn spelled(text: &[u8]) -> Number {
 }
 
 // Gives the decimal number of a text, where it is at most so much.
-pub(crate) fn decimal_of(text: &[u8], most: u64) -> Number {
+fn decimal_of(text: &[u8], most: u64) -> Number {
     let Number::Is(value) = spelled(text) else {
         return Number::None;
     };
@@ -93,36 +83,6 @@ pub(crate) fn decimal_of(text: &[u8], most: u64) -> Number {
         return Number::None;
     }
     Number::Is(value)
-}
-
-// Gives a decimal number below 256.
-pub(crate) fn small_of(text: &[u8]) -> Small {
-    let Number::Is(value) = spelled(text) else {
-        return Small::None;
-    };
-    if value > 255 {
-        return Small::None;
-    }
-    Small::Is(value as u8)
-}
-
-// Gives a decimal number below 65,536.
-pub(crate) fn half_of(text: &[u8]) -> Half {
-    let Number::Is(value) = spelled(text) else {
-        return Half::None;
-    };
-    if value > 65535 {
-        return Half::None;
-    }
-    Half::Is(value as u16)
-}
-
-// Gives a flag, 0 or 1.
-pub(crate) fn flag_of(text: &[u8]) -> Flag {
-    let Number::Is(value) = decimal_of(text, 1) else {
-        return Flag::None;
-    };
-    Flag::Is(value == 1)
 }
 
 // Gives the number that exactly so many hexadecimal digits spell.
@@ -143,18 +103,70 @@ fn hexadecimal_of(text: &[u8], digits: usize) -> Number {
     Number::Is(value)
 }
 
-// Gives a word of 4 hexadecimal digits. More than 16 bits never come.
-pub(crate) fn word_of(text: &[u8]) -> Half {
-    let Number::Is(value) = hexadecimal_of(text, 4) else {
-        return Half::None;
-    };
-    Half::Is((value % 65536) as u16)
+// Gives the side that a mask line names, r or t.
+fn side_of(text: &[u8]) -> Number {
+    if text.len() != 1 {
+        return Number::None;
+    }
+    match text[0] {
+        b'r' => Number::Is(RECEIVE),
+        b't' => Number::Is(TRANSMIT),
+        _ => Number::None,
+    }
 }
 
-// Gives a mask of 8 hexadecimal digits. More than 32 bits never come.
-pub(crate) fn mask_of(text: &[u8]) -> Mask {
-    let Number::Is(value) = hexadecimal_of(text, 8) else {
-        return Mask::None;
-    };
-    Mask::Is((value % 0x1_0000_0000) as u32)
+// Gives the length of what is left of a line, where anything is.
+fn rest_of(text: &[u8]) -> Number {
+    if text.len() == 0 {
+        return Number::None;
+    }
+    Number::Is(text.len() as u64)
+}
+
+// Says that a line has no such part.
+fn nothing_of(text: &[u8]) -> Number {
+    if text.len() == 0 {
+        return Number::Is(0);
+    }
+    Number::None
+}
+
+// Gives the greatest decimal number that a letter of a form stands for: "a number that does not fit its type, a place past the end of a table".
+fn most(letter: u8) -> u64 {
+    match letter {
+        b'f' => 1,
+        b's' => 31,
+        b'k' => 64,
+        b'b' => 255,
+        b'p' => 1023,
+        b'n' => 1024,
+        b'l' => 2048,
+        b'h' => 65535,
+        _ => 0xFFFF_FFFF_FFFF_FFFF,
+    }
+}
+
+// Gives the number of a part as a letter of a form has it.
+pub(crate) fn number_of(text: &[u8], letter: u8) -> Number {
+    match letter {
+        NOTHING => nothing_of(text),
+        REST => rest_of(text),
+        b'w' => hexadecimal_of(text, 4),
+        b'm' => hexadecimal_of(text, 8),
+        b'r' => side_of(text),
+        _ => decimal_of(text, most(letter)),
+    }
+}
+
+// The numbers of a call as what they are; number_of has read them so, and the rest of a division by 2^8, 2^16 or 2^32 is the number.
+pub(crate) fn byte(number: u64) -> u8 {
+    (number % 256) as u8
+}
+
+pub(crate) fn word(number: u64) -> u16 {
+    (number % 65536) as u16
+}
+
+pub(crate) fn mask(number: u64) -> u32 {
+    (number % 0x1_0000_0000) as u32
 }

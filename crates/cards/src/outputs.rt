@@ -1,6 +1,5 @@
 // What the program writes, in blocks: bytes wait in `out` up to a place, and go to standard output when it is full. No byte is lost.
 use libc::STDOUT_FILENO;
-use terminal::NextMoment;
 
 // A block of output.
 pub(crate) type Block = [u8; 65536];
@@ -32,21 +31,11 @@ pub(crate) fn put_text(out: &mut Block, at: usize, text: &[u8]) -> usize {
     place
 }
 
-// Puts a text and a number in decimal, and gives the next place.
-pub(crate) fn put_number(out: &mut Block, at: usize, text: &[u8], number: u64) -> usize {
-    let place = put_text(out, at, text);
+// Puts a number in decimal, and gives the next place.
+fn put_decimal(out: &mut Block, at: usize, number: u64) -> usize {
     let mut digits = [0u8; 20];
     let count = io::decimal(number, &mut digits);
-    put_text(out, place, &digits[..count])
-}
-
-// Puts a text and a bool as 0 or 1, and gives the next place.
-pub(crate) fn put_flag(out: &mut Block, at: usize, text: &[u8], on: bool) -> usize {
-    let place = put_text(out, at, text);
-    if on {
-        return put(out, place, b'1');
-    }
-    put(out, place, b'0')
+    put_text(out, at, &digits[..count])
 }
 
 // Puts the lowest four bits of a word as one digit, and gives the next place.
@@ -54,34 +43,46 @@ fn put_digit(out: &mut Block, at: usize, word: u16) -> usize {
     put(out, at, DIGITS[(word % 16) as usize])
 }
 
-// Puts a text and a word as four digits, and gives the next place.
-pub(crate) fn put_word(out: &mut Block, at: usize, text: &[u8], word: u16) -> usize {
-    let first = put_text(out, at, text);
-    let second = put_digit(out, first, word >> 12);
+// Puts a word as four digits, and gives the next place.
+pub(crate) fn put_word(out: &mut Block, at: usize, word: u16) -> usize {
+    let second = put_digit(out, at, word >> 12);
     let third = put_digit(out, second, word >> 8);
     let fourth = put_digit(out, third, word >> 4);
     put_digit(out, fourth, word)
 }
 
-// Puts the words of a table from a place on, a space before each but the first, and gives the next place.
-pub(crate) fn put_words(out: &mut Block, at: usize, words: &[u16]) -> usize {
+// Puts what a capital of a line stands for, and gives the next place: W is a word, any other a decimal number.
+fn put_value(out: &mut Block, at: usize, capital: u8, value: u64) -> usize {
+    if capital == b'W' {
+        return put_word(out, at, (value % 65536) as u16);
+    }
+    put_decimal(out, at, value)
+}
+
+// Puts a line as bench-script.md writes it, each capital for the next of the values, and gives the next place.
+pub(crate) fn put_line(out: &mut Block, at: usize, line: &[u8], values: [u64; 8]) -> usize {
     let mut place = at;
+    let mut used = 0;
     let mut i = 0;
-    while i < words.len() {
-        if i == 0 {
-            place = put_word(out, place, b"", words[i]);
-        } else {
-            place = put_word(out, place, b" ", words[i]);
+    while i < line.len() {
+        let byte = line[i];
+        match byte {
+            b'A'..=b'Z' => {
+                if used < 8 {
+                    place = put_value(out, place, byte, values[used]);
+                    used += 1;
+                }
+            }
+            _ => {
+                place = put(out, place, byte);
+            }
         }
         i += 1;
     }
     place
 }
 
-// Puts the next moment, or that there is none, and gives the next place.
-pub(crate) fn put_next(out: &mut Block, at: usize, next: NextMoment) -> usize {
-    match next {
-        NextMoment::At(moment) => put_number(out, at, b" next ", moment.0),
-        NextMoment::Never => put_text(out, at, b" next none"),
-    }
+// Puts a line with one capital, and gives the next place.
+pub(crate) fn put_one(out: &mut Block, at: usize, line: &[u8], value: u64) -> usize {
+    put_line(out, at, line, [value, 0, 0, 0, 0, 0, 0, 0])
 }

@@ -1,35 +1,5 @@
-// A line taken apart: "Words on a line are separated by spaces." The first part is the call's name.
-
-// Where the parts of a line stand: their number, 8 where there are 8 or more, and of the first eight the start and the end.
-pub(crate) struct Parts {
-    pub(crate) count: usize,
-    pub(crate) starts: [usize; 8],
-    pub(crate) ends: [usize; 8],
-}
-
-impl Parts {
-    // No call but `bytes` has more than 7 parts, so what stands past the eighth is not kept.
-    fn with(self, start: usize, end: usize) -> Parts {
-        let mut next = self;
-        let count = next.count;
-        if count < 8 {
-            next.starts[count] = start;
-            next.ends[count] = end;
-            next.count = count + 1;
-        }
-        next
-    }
-
-    // Gives the part at a place; none there is no text.
-    pub(crate) fn text<'a>(self, line: &'a [u8], place: usize) -> &'a [u8] {
-        if place < 8 {
-            let start = self.starts[place];
-            let end = self.ends[place];
-            return between(line, start, end);
-        }
-        between(line, 0, 0)
-    }
-}
+// The parts of a line: "Words on a line are separated by spaces", here by one each, since a line is gathered so.
+use crate::numbers::REST;
 
 // Gives the bytes from a start to an end, none where these are no places of the text.
 pub(crate) fn between(text: &[u8], start: usize, end: usize) -> &[u8] {
@@ -41,36 +11,34 @@ pub(crate) fn between(text: &[u8], start: usize, end: usize) -> &[u8] {
     &text[..0]
 }
 
-// Gives the parts of a line whose parts stand one space apart.
-pub(crate) fn split(line: &[u8]) -> Parts {
-    let mut parts = Parts {
-        count: 0,
-        starts: [0; 8],
-        ends: [0; 8],
-    };
-    let mut start = 0;
-    let mut at = 0;
-    while at < line.len() {
-        if line[at] == b' ' {
-            parts = parts.with(start, at);
-            start = at + 1;
-        }
-        at += 1;
+// Gives where the part begins that follows one that ends at a place; where none does, it is past the line.
+pub(crate) fn next_start(line: &[u8], end: usize) -> usize {
+    if end < line.len() {
+        end + 1
+    } else {
+        line.len()
     }
-    parts.with(start, at)
 }
 
-// Says whether a text is that name.
-pub(crate) fn is(text: &[u8], name: &[u8]) -> bool {
-    if text.len() != name.len() {
-        return false;
+// Gives where a part ends that begins at a start: at the next space, or where its letter is that of the rest, with the line.
+pub(crate) fn part_end(line: &[u8], start: usize, letter: u8) -> usize {
+    if letter == REST {
+        return line.len();
     }
-    let mut i = 0;
-    while i < name.len() {
-        if text[i] != name[i] {
-            return false;
+    let mut end = start;
+    while end < line.len() {
+        if line[end] == b' ' {
+            return end;
         }
-        i += 1;
+        end += 1;
     }
-    true
+    line.len()
+}
+
+// Gives the last so many bytes of a line, none where it has fewer.
+pub(crate) fn last(line: &[u8], count: usize) -> &[u8] {
+    if count <= line.len() {
+        return &line[line.len() - count..];
+    }
+    &line[..0]
 }

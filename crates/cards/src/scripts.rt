@@ -1,134 +1,147 @@
-// A script: its lines told apart by the name that they begin with, and its blocks by the ends of lines.
+// A script: its calls made, and its blocks told into lines.
 use crate::benches::Bench;
-use crate::benches::Buffer;
-use crate::benches::Line;
-use crate::benches::Masks;
-use crate::benches::Table;
+use crate::benches::Done;
+use crate::calls::Call;
+use crate::calls::Name;
+use crate::calls::call_of;
+use crate::events::record_of;
 use crate::gatherings::Gathering;
+use crate::numbers::mask;
+use crate::numbers::word;
 use crate::outputs::Block;
-use crate::parts::Parts;
 use crate::parts::between;
-use crate::parts::is;
-use crate::parts::split;
+use crate::parts::last;
+use crate::replies::Reply;
+use crate::replies::put_reply;
+use crate::setups::MASKS;
+use crate::verdicts::plan_of;
+use terminal::Event;
+use words::Moment;
 
-// What a block leaves to the next: the bench, and the line that it cut.
-pub(crate) struct Progress {
+// The longest line that is kept, a table with what a line can lend past its end, and the byte buffer.
+pub(crate) type Line = [u8; 262144];
+
+pub(crate) type Table = [u16; 2048];
+
+pub(crate) type Buffer = [u8; 65536];
+
+// What a line leaves to the next: the bench, and how many bytes of output wait.
+pub(crate) struct Run {
     pub(crate) bench: Bench,
+    pub(crate) waiting: usize,
+}
+
+// What a block leaves to the next, which may cut a line.
+pub(crate) struct Progress {
+    pub(crate) run: Run,
     pub(crate) gathering: Gathering,
 }
 
 impl Bench {
-    // Runs a line about the plan or the byte buffer; any other is no call.
-    fn run_verdict(self, line: &[u8], parts: Parts, buffer: &mut [u8], out: &mut Block) -> Bench {
-        let name = parts.text(line, 0);
-        if is(name, b"back") {
-            return self.back(line, parts, buffer, out);
-        }
-        if is(name, b"plan") {
-            return self.plan(line, parts, out);
-        }
-        if is(name, b"judge") {
-            return self.judge(parts, buffer, out);
-        }
-        if is(name, b"bytes") {
-            return self.bytes(line, parts, buffer, out);
-        }
-        if is(name, b"file") {
-            return self.file(parts, buffer, out);
-        }
-        self.no_call(out)
+    // Makes a call of the host, which changes only the terminal. Any other is none.
+    fn host(self, name: Name, number: u64) -> Done {
+        let terminal = self.terminal;
+        let on = number == 1;
+        let next = match name {
+            Name::Service => terminal.set_service(on),
+            Name::Busy => terminal.set_busy(on),
+            Name::Subsystem => terminal.set_subsystem(on),
+            Name::Fault => terminal.set_fault(on),
+            Name::Vector => terminal.set_vector(word(number)),
+            Name::Bit => terminal.set_bit(word(number)),
+            Name::Selftest => terminal.clear_selftest(),
+            Name::Restart => terminal.restart(),
+            _ => {
+                return self.no_call();
+            }
+        };
+        self.with(next).ok()
     }
 
-    // Runs a line of the host that needs no table, or hands it on.
-    fn run_host(self, line: &[u8], parts: Parts, buffer: &mut [u8], out: &mut Block) -> Bench {
-        let name = parts.text(line, 0);
-        if is(name, b"state") {
-            return self.state(parts, out);
+    // Makes a call that needs neither table nor buffer.
+    fn perform_bare(self, call: Call) -> Done {
+        let numbers = call.numbers;
+        let name = call.name;
+        match name {
+            Name::Mask => self.set_mask(numbers[0], numbers[1] as usize, mask(numbers[2])),
+            Name::Setup => self.set_up(word(numbers[0]), MASKS, MASKS),
+            Name::SetupLending => {
+                self.set_up(word(numbers[0]), numbers[1] as usize, numbers[2] as usize)
+            }
+            Name::Tables => self.lend_later(numbers[0] as usize, numbers[1] as usize),
+            Name::ReceivedWord => self.received(numbers[0] as usize, 1),
+            Name::ReceivedWords => self.received(numbers[0] as usize, numbers[1] as usize),
+            Name::State => self.replied(Reply::State),
+            Name::Plan => self.planned(plan_of(numbers)),
+            _ => self.host(name, numbers[0]),
         }
-        if is_flag(name) {
-            return self.flag(line, parts, out);
-        }
-        if is(name, b"vector") {
-            return self.vector(line, parts, out);
-        }
-        if is(name, b"bit") {
-            return self.bit(line, parts, out);
-        }
-        if is(name, b"selftest") {
-            return self.selftest(parts, out);
-        }
-        if is(name, b"restart") {
-            return self.restart(parts, out);
-        }
-        if is(name, b"tables") {
-            return self.tables(line, parts, out);
-        }
-        self.run_verdict(line, parts, buffer, out)
     }
 
-    // Runs a line that is no remark and not empty.
+    // Makes a call.
+    fn perform(
+        self,
+        call: Call,
+        line: &[u8],
+        receive: &mut [u16],
+        transmit: &mut [u16],
+        buffer: &mut [u8],
+    ) -> Done {
+        let numbers = call.numbers;
+        let name = call.name;
+        match name {
+            Name::Word => self.lend(Event::Word(record_of(numbers)), receive, transmit),
+            Name::Mark => self.lend(Event::Mark(Moment(numbers[0])), receive, transmit),
+            Name::Send => self.send(numbers[0] as usize, word(numbers[1]), transmit),
+            Name::Back => self.back(record_of(numbers), buffer),
+            Name::Bytes => self.bytes(last(line, numbers[0] as usize), buffer),
+            Name::Judge => self.judge(buffer),
+            Name::File => self.file(buffer),
+            _ => self.perform_bare(call),
+        }
+    }
+}
+
+impl Run {
+    pub(crate) fn start() -> Run {
+        let bench = Bench::start();
+        Run { bench, waiting: 0 }
+    }
+
+    // Makes the call that a line is, and writes its line.
     fn run(
         self,
         line: &[u8],
         receive: &mut [u16],
         transmit: &mut [u16],
-        received: &mut [u32],
-        transmitted: &mut [u32],
         buffer: &mut [u8],
         out: &mut Block,
-    ) -> Bench {
-        let parts = split(line);
-        let name = parts.text(line, 0);
-        if is(name, b"word") {
-            return self.word(line, parts, receive, transmit, out);
+    ) -> Run {
+        let bench = self.bench;
+        let done = bench.perform(call_of(line), line, receive, transmit, buffer);
+        let after = done.bench;
+        let waiting = put_reply(out, self.waiting, done, receive);
+        Run {
+            bench: after,
+            waiting,
         }
-        if is(name, b"mark") {
-            return self.mark(line, parts, receive, transmit, out);
-        }
-        if is(name, b"received") {
-            return self.received(line, parts, receive, out);
-        }
-        if is(name, b"send") {
-            return self.send(line, parts, transmit, out);
-        }
-        if is(name, b"mask") {
-            return self.mask(line, parts, received, transmitted, out);
-        }
-        if is(name, b"setup") {
-            return self.setup(line, parts, received, transmitted, out);
-        }
-        self.run_host(line, parts, buffer, out)
     }
 
-    // Runs a whole line: "A line that is empty or begins with `#` writes nothing."
+    // Runs a line as it was gathered.
     pub(crate) fn run_line(
         self,
         gathering: Gathering,
         line: &Line,
         receive: &mut Table,
         transmit: &mut Table,
-        received: &mut Masks,
-        transmitted: &mut Masks,
         buffer: &mut Buffer,
         out: &mut Block,
-    ) -> Bench {
-        if !gathering.begun {
+    ) -> Run {
+        if gathering.is_silent() {
             return self;
         }
-        if gathering.remark {
-            return self;
-        }
-        if gathering.over {
-            return self.no_call(out);
-        }
-        let text = between(line, 0, gathering.length);
-        self.run(text, receive, transmit, received, transmitted, buffer, out)
+        let text = between(line, 0, gathering.bytes());
+        self.run(text, receive, transmit, buffer, out)
     }
-}
-
-// Says whether a name is that of a host flag.
-fn is_flag(name: &[u8]) -> bool {
-    is(name, b"service") | is(name, b"busy") | is(name, b"subsystem") | is(name, b"fault")
 }
 
 // Takes the bytes of a block, and runs each line that ends in it.
@@ -138,32 +151,21 @@ pub(crate) fn run_block(
     line: &mut Line,
     receive: &mut Table,
     transmit: &mut Table,
-    received: &mut Masks,
-    transmitted: &mut Masks,
     buffer: &mut Buffer,
     out: &mut Block,
 ) -> Progress {
-    let mut bench = progress.bench;
+    let mut run = progress.run;
     let mut gathering = progress.gathering;
     let mut i = 0;
     while i < block.len() {
         let byte = block[i];
         if byte == b'\n' {
-            bench = bench.run_line(
-                gathering,
-                line,
-                receive,
-                transmit,
-                received,
-                transmitted,
-                buffer,
-                out,
-            );
+            run = run.run_line(gathering, line, receive, transmit, buffer, out);
             gathering = Gathering::none();
         } else {
             gathering = gathering.take(line, byte);
         }
         i += 1;
     }
-    Progress { bench, gathering }
+    Progress { run, gathering }
 }

@@ -4,10 +4,10 @@ use Rattle.cards.proofs.read_all.Statement.{statement}
 use Rattle.cards.proofs.read_all.Tie as tie
 
 abbrev Inv-loop : tie.InvT-loop
-Inv-loop line₀ receive₀ transmit₀ received₀ transmitted₀ buffer₀ out₀ progress₀ turns₀ more₀ line receive transmit received transmitted buffer out progress turns more = Unit {0}
+Inv-loop line₀ receive₀ transmit₀ buffer₀ out₀ progress₀ turns₀ more₀ line receive transmit buffer out progress turns more = Unit {0}
 
 abbrev μ-loop : tie.MeasureT-loop
-μ-loop line₀ receive₀ transmit₀ received₀ transmitted₀ buffer₀ out₀ progress₀ turns₀ more₀ line receive transmit received transmitted buffer out progress turns more = turns
+μ-loop line₀ receive₀ transmit₀ buffer₀ out₀ progress₀ turns₀ more₀ line receive transmit buffer out progress turns more = turns
 
 start-requires : tie.Need-start-requires Inv-loop μ-loop
 start-requires c κs = tt

@@ -6,10 +6,10 @@ use Rattle.cards.proofs.scripts.run_block.Statement.{statement}
 use Rattle.cards.proofs.scripts.run_block.Tie as tie
 
 abbrev Inv-loop : tie.InvT-loop
-Inv-loop block line₀ receive₀ transmit₀ received₀ transmitted₀ buffer₀ out₀ bench₀ gathering₀ i₀ line receive transmit received transmitted buffer out bench gathering i = Unit {0}
+Inv-loop block line₀ receive₀ transmit₀ buffer₀ out₀ run₀ gathering₀ i₀ line receive transmit buffer out run gathering i = Unit {0}
 
 abbrev μ-loop : tie.MeasureT-loop
-μ-loop block line₀ receive₀ transmit₀ received₀ transmitted₀ buffer₀ out₀ bench₀ gathering₀ i₀ line receive transmit received transmitted buffer out bench gathering i = length block - i
+μ-loop block line₀ receive₀ transmit₀ buffer₀ out₀ run₀ gathering₀ i₀ line receive transmit buffer out run gathering i = length block - i
 
 loop-holds : tie.Need-loop-holds Inv-loop μ-loop
 loop-holds c = tt

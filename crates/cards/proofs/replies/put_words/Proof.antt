@@ -2,20 +2,20 @@
 use Prim.Native.Nat.{_-_}
 use lib.ListN.{length}
 use borrow.Author.Needs.{needs}
-use Rattle.cards.proofs.outputs.put_words.Statement.{statement}
-use Rattle.cards.proofs.outputs.put_words.Tie as tie
+use Rattle.cards.proofs.replies.put_words.Statement.{statement}
+use Rattle.cards.proofs.replies.put_words.Tie as tie
 
 abbrev Inv-loop : tie.InvT-loop
-Inv-loop out₀ at words place₀ i₀ t6 t7 out place i = Unit {0}
+Inv-loop out₀ at words place₀ i₀ out place i = Unit {0}
 
 abbrev μ-loop : tie.MeasureT-loop
-μ-loop out₀ at words place₀ i₀ t6 t7 out place i = length words - i
+μ-loop out₀ at words place₀ i₀ out place i = length words - i
 
 loop-holds : tie.Need-loop-holds Inv-loop μ-loop
 loop-holds c = tt
 
-slice-aggregate-put-word : tie.Need-slice-aggregate-put-word Inv-loop μ-loop
-slice-aggregate-put-word c = search needs
+put-requires : tie.Need-put-requires Inv-loop μ-loop
+put-requires c κs = tt
 
 mul-put-word : tie.Need-mul-put-word Inv-loop μ-loop
 mul-put-word c = search needs
@@ -25,18 +25,6 @@ shared-slice-read-put-word c = search needs
 
 put-word-requires : tie.Need-put-word-requires Inv-loop μ-loop
 put-word-requires c κs = tt
-
-slice-aggregate-put-word-2 : tie.Need-slice-aggregate-put-word-2 Inv-loop μ-loop
-slice-aggregate-put-word-2 c = search needs
-
-mul-put-word-2 : tie.Need-mul-put-word-2 Inv-loop μ-loop
-mul-put-word-2 c = search needs
-
-shared-slice-read-put-word-2 : tie.Need-shared-slice-read-put-word-2 Inv-loop μ-loop
-shared-slice-read-put-word-2 c = search needs
-
-put-word-requires-2 : tie.Need-put-word-requires-2 Inv-loop μ-loop
-put-word-requires-2 c κs = tt
 
 add-i : tie.Need-add-i Inv-loop μ-loop
 add-i c = search needs
@@ -57,14 +45,10 @@ put-words-spec =
     Inv-loop
     μ-loop
     loop-holds
-    slice-aggregate-put-word
+    put-requires
     mul-put-word
     shared-slice-read-put-word
     put-word-requires
-    slice-aggregate-put-word-2
-    mul-put-word-2
-    shared-slice-read-put-word-2
-    put-word-requires-2
     add-i
     loop-less
     loop-again

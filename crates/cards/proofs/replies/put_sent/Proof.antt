@@ -1,20 +1,20 @@
 -- `put_sent` is safe and ends: the measure is what is left of the count. Assumes nothing.
 use Prim.Native.Nat.{_-_}
 use borrow.Author.Needs.{needs}
-use Rattle.cards.proofs.events.put_sent.Statement.{statement}
-use Rattle.cards.proofs.events.put_sent.Tie as tie
+use Rattle.cards.proofs.replies.put_sent.Statement.{statement}
+use Rattle.cards.proofs.replies.put_sent.Tie as tie
 
 abbrev Inv-loop : tie.InvT-loop
-Inv-loop out₀ at count words place₀ i₀ t8 out place i = Unit {0}
+Inv-loop out₀ at count words place₀ i₀ out place i = Unit {0}
 
 abbrev μ-loop : tie.MeasureT-loop
-μ-loop out₀ at count words place₀ i₀ t8 out place i = count - i
+μ-loop out₀ at count words place₀ i₀ out place i = count - i
 
 loop-holds : tie.Need-loop-holds Inv-loop μ-loop
 loop-holds c = tt
 
-slice-aggregate-put-word : tie.Need-slice-aggregate-put-word Inv-loop μ-loop
-slice-aggregate-put-word c = search needs
+put-requires : tie.Need-put-requires Inv-loop μ-loop
+put-requires c κs = tt
 
 cast-put-word : tie.Need-cast-put-word Inv-loop μ-loop
 cast-put-word c = search needs
@@ -47,7 +47,7 @@ put-sent-spec =
     Inv-loop
     μ-loop
     loop-holds
-    slice-aggregate-put-word
+    put-requires
     cast-put-word
     mul-put-word
     array-read-put-word

@@ -3,14 +3,20 @@ use Prim.Native.Nat.{_-_}
 use lib.ListN.{length}
 use mathlib.Core.Path.{_≡_}
 use borrow.Author.Needs.{needs}
-use Rattle.cards.proofs.verdicts.fill.Statement.{statement}
-use Rattle.cards.proofs.verdicts.fill.Tie as tie
+use Rattle.cards.proofs.fillings.fill.Statement.{statement}
+use Rattle.cards.proofs.fillings.fill.Tie as tie
 
 abbrev Inv-loop : tie.InvT-loop
 Inv-loop text buffer₀ end filling₀ i₀ buffer filling i = length buffer ≡ length buffer₀
 
 abbrev μ-loop : tie.MeasureT-loop
 μ-loop text buffer₀ end filling₀ i₀ buffer filling i = length text - i
+
+is-named-requires : tie.Need-is-named-requires Inv-loop μ-loop
+is-named-requires c κs = search needs
+
+returns : tie.Need-returns Inv-loop μ-loop
+returns c = search needs
 
 loop-holds : tie.Need-loop-holds Inv-loop μ-loop
 loop-holds c = search needs
@@ -33,14 +39,14 @@ loop-again c = search needs
 same-length : tie.Need-same-length Inv-loop μ-loop
 same-length c = search needs
 
-returns : tie.Need-returns Inv-loop μ-loop
-returns c = search needs
+returns-2 : tie.Need-returns-2 Inv-loop μ-loop
+returns-2 c = search needs
 
 same-length-2 : tie.Need-same-length-2 Inv-loop μ-loop
 same-length-2 c = search needs
 
-returns-2 : tie.Need-returns-2 Inv-loop μ-loop
-returns-2 c = search needs
+returns-3 : tie.Need-returns-3 Inv-loop μ-loop
+returns-3 c = search needs
 
 pub fill-spec : {M : Type 1} → statement M
 fill-spec =
@@ -48,6 +54,8 @@ fill-spec =
     (tie.spec
     Inv-loop
     μ-loop
+    is-named-requires
+    returns
     loop-holds
     shared-slice-read-take
     take-requires
@@ -55,6 +63,6 @@ fill-spec =
     loop-less
     loop-again
     same-length
-    returns
+    returns-2
     same-length-2
-    returns-2)
+    returns-3)

@@ -1,15 +1,14 @@
--- `is` is safe and ends: text and name have one length, and the measure is what is left of the name. Assumes nothing.
+-- `is_named` is safe and ends: the measure is what is left of the nine letters. Assumes nothing.
 use Prim.Native.Nat.{_-_}
-use lib.ListN.{length}
 use borrow.Author.Needs.{needs}
-use Rattle.cards.proofs.parts.is.Statement.{statement}
-use Rattle.cards.proofs.parts.is.Tie as tie
+use Rattle.cards.proofs.calls.is_named.Statement.{statement}
+use Rattle.cards.proofs.calls.is_named.Tie as tie
 
 abbrev Inv-loop : tie.InvT-loop
-Inv-loop text name i₀ i = Unit {0}
+Inv-loop text form i₀ i = Unit {0}
 
 abbrev μ-loop : tie.MeasureT-loop
-μ-loop text name i₀ i = length name - i
+μ-loop text form i₀ i = 9 - i
 
 returns : tie.Need-returns Inv-loop μ-loop
 returns c = tt
@@ -17,11 +16,11 @@ returns c = tt
 loop-holds : tie.Need-loop-holds Inv-loop μ-loop
 loop-holds c = tt
 
-shared-slice-read-if2 : tie.Need-shared-slice-read-if2 Inv-loop μ-loop
-shared-slice-read-if2 c = search needs
+shared-slice-read-letter : tie.Need-shared-slice-read-letter Inv-loop μ-loop
+shared-slice-read-letter c = search needs
 
-shared-slice-read-if2-2 : tie.Need-shared-slice-read-if2-2 Inv-loop μ-loop
-shared-slice-read-if2-2 c = search needs
+array-read-if3 : tie.Need-array-read-if3 Inv-loop μ-loop
+array-read-if3 c = search needs
 
 returns-2 : tie.Need-returns-2 Inv-loop μ-loop
 returns-2 c = tt
@@ -38,16 +37,16 @@ loop-again c = tt
 returns-3 : tie.Need-returns-3 Inv-loop μ-loop
 returns-3 c = tt
 
-pub is-spec : {M : Type 1} → statement M
-is-spec =
+pub is-named-spec : {M : Type 1} → statement M
+is-named-spec =
     tie.close
     (tie.spec
     Inv-loop
     μ-loop
     returns
     loop-holds
-    shared-slice-read-if2
-    shared-slice-read-if2-2
+    shared-slice-read-letter
+    array-read-if3
     returns-2
     add-i
     loop-less
