@@ -6,12 +6,12 @@ use crate::parts::next_start;
 use crate::parts::part_end;
 
 pub(crate) enum Name {
+    Word,
+    Mark,
     Mask,
     Setup,
     SetupLending,
     Tables,
-    Word,
-    Mark,
     Service,
     Busy,
     Subsystem,
@@ -29,6 +29,7 @@ pub(crate) enum Name {
     Bytes,
     Judge,
     File,
+    // no call
     None,
 }
 

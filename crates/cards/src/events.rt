@@ -23,7 +23,7 @@ pub(crate) fn record_of(numbers: [u64; 7]) -> WordRecord {
 
 impl Bench {
     // Hands an event to the terminal with the tables that are lent: word, mark.
-    pub(crate) fn happen(self, event: Event, receive: &mut [u16], transmit: &[u16]) -> Done {
+    fn happen(self, event: Event, receive: &mut [u16], transmit: &[u16]) -> Done {
         let happened = self.terminal.event(event, receive, transmit);
         let refusal = happened.refusal;
         if refusal.0 != 0 {

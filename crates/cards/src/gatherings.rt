@@ -3,15 +3,15 @@
 // What is known of the line so far.
 pub(crate) struct Gathering {
     // bytes kept in the line
-    pub(crate) length: usize,
+    length: usize,
     // a space stands before the next byte
-    pub(crate) spaced: bool,
+    spaced: bool,
     // a byte came: the line is not empty
-    pub(crate) begun: bool,
+    begun: bool,
     // it begins with #
-    pub(crate) remark: bool,
+    remark: bool,
     // it does not fit, so it is no call: the longest call has 196,613 bytes
-    pub(crate) over: bool,
+    over: bool,
 }
 
 impl Gathering {

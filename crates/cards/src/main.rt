@@ -102,7 +102,7 @@ fn finish(
     io::write_all(STDOUT_FILENO, parts::between(out, 0, last.waiting));
 }
 
-// "At the start: .. every mask FFFFFFFF ..; receive and transmit table of 1,024 zeros". What a line can lend past these is only a length.
+// "At the start: .. receive and transmit table of 1,024 zeros". What a line can lend past these is only a length.
 fn main() {
     let mut line = [0u8; 262144];
     let mut receive = [0u16; 2048];

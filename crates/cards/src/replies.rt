@@ -12,10 +12,13 @@ use terminal::Terminal;
 use verdict::Verdict;
 use words::Refusal;
 
+// What is to be written of a call.
 pub(crate) enum Reply {
     Ok,
     Refused(Refusal),
+    // an event that is not refused
     Happened,
+    // a place of the receive table, and how many words from there
     Words(usize, usize),
     State,
     Verdict(Verdict),

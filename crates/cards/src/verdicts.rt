@@ -8,14 +8,12 @@ use crate::numbers::word;
 use crate::parts::between;
 use crate::replies::Reply;
 use records::Counted;
+use records::RECORD_BYTES;
 use records::WordRecord;
 use verdict::Judged;
 use verdict::Plan;
 use words::CommandWord;
 use words::Moment;
-
-// the bytes of a record
-const RECORD_BYTES: usize = 16;
 
 // Gives the plan of the numbers N C1 C2 BUS E Q.
 pub(crate) fn plan_of(numbers: [u64; 7]) -> Plan {
@@ -40,7 +38,7 @@ impl Bench {
     }
 
     // The same bench with so many bytes in the buffer.
-    pub(crate) fn filled(self, length: usize) -> Done {
+    fn filled(self, length: usize) -> Done {
         let mut next = self;
         next.buffered = length;
         next.ok()
