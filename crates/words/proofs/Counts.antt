@@ -1,16 +1,15 @@
 -- Laws of the count of ones. Assumes nothing.
-use mathlib.Core.Path.{_≡_, ap, _∙_}
-use Prim.Native.Nat.{ℕ, zero, suc, _+_, _/_, _%_, _^_}
-use native.Mathlib.Numerals.{add-one, one-add}
-use native.Mathlib.Omega.{arith}
-use lib.Pow.{shr-shr}
-use lib.Count.{onesIn}
+use mathlib.Core.Path.{_≡_, sym, ap, _∙_, subst}
+use Prim.Native.Nat.{ℕ, zero, suc, _+_, _/_, _%_, _^_, _<_}
+use native.Mathlib.Numerals.{add-one}
+use lib.Arith.{lt-one}
+use lib.Count.{ones, onesIn, ones-step}
+use lib.Pow.{shr-lt}
 
--- one digit more, at the top
-digit : (i n : ℕ) → onesIn (suc i) n ≡ onesIn i n + n / 2 ^ i % 2
-unfolding onesIn
-digit zero n = omega arith
-digit (suc i) n = omega (arith, digit i (n / 2), ap (λ (x : ℕ). x % 2) (shr-shr n 1 i ∙ ap (λ (e : ℕ). n / 2 ^ e) (one-add i)))
-
-pub ones-more : (i n : ℕ) → onesIn (i + 1) n ≡ onesIn i n + n / 2 ^ i % 2
-ones-more i n = ap (λ (k : ℕ). onesIn k n) (add-one i) ∙ digit i n
+-- a number of k digits has its ones among them
+pub ones-within : (k n : ℕ) → n < 2 ^ k → ones n ≡ onesIn k n
+unfolding onesIn ones
+ones-within zero n below = ap ones (lt-one below)
+ones-within (suc k) n below =
+    let half : n / 2 < 2 ^ k = shr-lt k 1 (subst (λ (x : ℕ). n < 2 ^ x) (sym (add-one k)) below) in
+    ones-step n ∙ ap (λ (x : ℕ). n % 2 + x) (ones-within k (n / 2) half)

@@ -11,12 +11,7 @@ pub const DATA_SYNC: u8 = 1;
 fn is_odd(word: u16, parity: u8) -> bool
     ensures answer { λ r. ⌜ r ≡ isOdd word parity ⌝ }
 {
-    let mut ones = parity as u16;
-    let mut place: u16 = 0;
-    while place < 16 {
-        ones += (word >> place) & 1;
-        place += 1;
-    }
+    let ones = u16::count_ones(word) + parity as u32;
     ones & 1 == 1
 }
 
