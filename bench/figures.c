@@ -36,7 +36,7 @@ typedef int Valid(uint8_t, uint8_t, uint16_t, uint8_t);
 typedef unsigned Read(const uint8_t *, size_t, plain_record *);
 typedef unsigned Write(uint8_t *, size_t, const plain_record *);
 typedef unsigned Check(const uint8_t *, size_t, uint64_t *);
-typedef unsigned Verdict(const plain_plan *, const uint8_t *, size_t, uint8_t *);
+typedef unsigned Verdict(const plain_plan *, const uint8_t *, size_t, uint8_t *, uint8_t *);
 
 IN_WHOLE uint64_t judge_words(Valid *valid)
 {
@@ -87,9 +87,10 @@ IN_WHOLE uint64_t judge_plans(Verdict *give)
     uint64_t sum = 0;
     for (unsigned turn = 0; turn < PLAN_TURNS; turn++)
         for (unsigned i = 0; i < PLANS; i++) {
-            uint8_t verdict = 0;
-            sum = sum * 31 + give(&cases[i].plan, cases[i].bytes, cases[i].n, &verdict);
+            uint8_t verdict = 0, looked = 0;
+            sum = sum * 31 + give(&cases[i].plan, cases[i].bytes, cases[i].n, &verdict, &looked);
             sum = sum * 31 + verdict;
+            sum = sum * 31 + looked;
         }
     return sum;
 }

@@ -26,9 +26,9 @@ static inline unsigned ours_file_check(const uint8_t *bytes, size_t n, uint64_t 
     return bus_file_check(bytes, n, records);
 }
 
-static inline unsigned ours_verdict(const plain_plan *p, const uint8_t *bytes, size_t n, uint8_t *verdict)
+static inline unsigned ours_verdict(const plain_plan *p, const uint8_t *bytes, size_t n, uint8_t *verdict, uint8_t *looked)
 {
-    return bus_verdict_give((uint8_t)p->commands, p->first, p->second, p->bus, p->last, p->until, bytes, n, verdict);
+    return bus_verdict_looked((uint8_t)p->commands, p->first, p->second, p->bus, p->last, p->until, bytes, n, verdict, looked);
 }
 
 #endif

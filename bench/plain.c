@@ -239,6 +239,7 @@ typedef struct {
     size_t n;
     uint64_t last; /* the last word's time, E first */
     uint64_t until;
+    unsigned looked; /* records taken */
 } walk;
 
 enum { GOOD, NO_RESPONSE, WAITING, EARLY, LATE, INVALID, SYNC, ADDRESS, MESSAGE_ERROR, BUSY, SPACING, LEFT_OVER };
@@ -251,6 +252,7 @@ static int take(walk *w, plain_record *r)
     plain_record_read(w->bytes, w->n, r);
     w->bytes += PLAIN_RECORD;
     w->n -= PLAIN_RECORD;
+    w->looked++;
     return 1;
 }
 
@@ -327,21 +329,23 @@ static unsigned judge_pair(walk *w, uint16_t receive, uint16_t transmit)
     return verdict;
 }
 
-unsigned plain_verdict(const plain_plan *plan, const uint8_t *bytes, size_t n, uint8_t *verdict)
+unsigned plain_verdict(const plain_plan *plan, const uint8_t *bytes, size_t n, uint8_t *verdict, uint8_t *looked)
 {
     unsigned refused = plan_refused(plan);
     if (refused == 0)
         refused = records_refused(plan, bytes, n);
     if (refused)
         return refused;
-    walk w = {bytes, n, plan->last, plan->until};
+    plain_record r;
+    walk w = {bytes, n, plan->last, plan->until, 0};
     unsigned found = plan->commands == 1 ? judge_single(&w, plan->first) : judge_pair(&w, plan->first, plan->second);
     /* "A record left over: 11. Then 2 if Q is below the last word plus 220, else 0 good." */
-    if (found == GOOD && w.n != 0)
+    if (found == GOOD && take(&w, &r))
         found = LEFT_OVER;
     else if (found == GOOD && w.until < w.last + 220)
         found = WAITING;
     *verdict = (uint8_t)found;
+    *looked = (uint8_t)w.looked;
     return 0;
 }
 

@@ -64,8 +64,8 @@ typedef struct {
     uint64_t until;         /* Q, the moment up to which it listened */
 } plain_plan;
 
-/* The returned records are n bytes, 16 each. 0 and the verdict 0 to 11, or 7, 5, 3, 4, 6. */
-unsigned plain_verdict(const plain_plan *plan, const uint8_t *bytes, size_t n, uint8_t *verdict);
+/* The returned records are n bytes, 16 each. 0, the verdict 0 to 11 and how many records it looked at, or 7, 5, 3, 4, 6. */
+unsigned plain_verdict(const plain_plan *plan, const uint8_t *bytes, size_t n, uint8_t *verdict, uint8_t *looked);
 
 /* ---- the terminal */
 

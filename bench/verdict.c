@@ -10,32 +10,62 @@
 
 /* ---- one call of each */
 
-static unsigned long compared, differ, not_good, verdicts[12], refusals[8];
+static unsigned long compared, differ, not_good, verdicts[12], refusals[8], looked[256];
 
-static void show(const Case *c, unsigned refused, unsigned got, unsigned right, unsigned wanted)
+/* What a call gives. What is not given stays EE. */
+typedef struct {
+    unsigned refused;
+    uint8_t verdict, looked;
+} Outcome;
+
+static const Outcome none = {0, 0xEE, 0xEE};
+
+static void show(const plain_plan *p, const uint8_t *bytes, size_t n)
 {
-    const plain_plan *p = &c->plan;
-    printf("refused %u, verdict %u; plain C: refused %u, verdict %u\n", refused, got, right, wanted);
     printf("  plan %u %04X %04X %u %llu %llu\n", p->commands, p->first, p->second, p->bus, (unsigned long long)p->last,
            (unsigned long long)p->until);
-    for (size_t i = 0; i < c->n; i++)
-        printf("%s%02X%s", i % 16 ? "" : "  bytes ", c->bytes[i], i % 16 == 15 || i + 1 == c->n ? "\n" : "");
+    for (size_t i = 0; i < n; i++)
+        printf("%s%02X%s", i % 16 ? "" : "  bytes ", bytes[i], i % 16 == 15 || i + 1 == n ? "\n" : "");
 }
 
-/* Calls both; 1 if plain C gives the verdict good. A verdict that is not given stays EE. */
+/* 1 if they differ and it is to be shown in whole. */
+static int compare(const char *name, Outcome ours, Outcome right)
+{
+    compared++;
+    if ((ours.refused == right.refused && ours.verdict == right.verdict && ours.looked == right.looked) || differ++ >= 10)
+        return 0;
+    printf("%s: refused %u, verdict %u, looked at %u; ", name, ours.refused, ours.verdict, ours.looked);
+    printf("plain C: refused %u, verdict %u, looked at %u\n", right.refused, right.verdict, right.looked);
+    return 1;
+}
+
+static void tally(Outcome right)
+{
+    if (right.refused) {
+        refusals[right.refused]++;
+        return;
+    }
+    verdicts[right.verdict]++;
+    looked[right.looked]++;
+}
+
+/* Calls plain C and both functions of the card; 1 if plain C gives the verdict good. */
+static int judge(const plain_plan *p, const uint8_t *bytes, size_t n)
+{
+    Outcome ours = none, given = none, right = none;
+    right.refused = plain_verdict(p, bytes, n, &right.verdict, &right.looked);
+    tally(right);
+    ours.refused = ours_verdict(p, bytes, n, &ours.verdict, &ours.looked);
+    given.refused = bus_verdict_give((uint8_t)p->commands, p->first, p->second, p->bus, p->last, p->until, bytes, n, &given.verdict);
+    given.looked = right.looked;
+    if (compare("bus_verdict_looked", ours, right) | compare("bus_verdict_give", given, right))
+        show(p, bytes, n);
+    return !right.refused && right.verdict == GOOD;
+}
+
 static int both(const Case *c)
 {
-    uint8_t got = 0xEE, wanted = 0xEE;
-    unsigned refused = ours_verdict(&c->plan, c->bytes, c->n, &got);
-    unsigned right = plain_verdict(&c->plan, c->bytes, c->n, &wanted);
-    compared++;
-    if (right)
-        refusals[right]++;
-    else
-        verdicts[wanted]++;
-    if ((refused != right || got != wanted) && differ++ < 10)
-        show(c, refused, got, right, wanted);
-    return !right && wanted == GOOD;
+    return judge(&c->plan, c->bytes, c->n);
 }
 
 static void random_plans(void)
@@ -115,9 +145,8 @@ static void fixed_plans(void)
     }
     all_limits(1, plain_command_build(5, 1, 2, 3), 0);
     all_limits(1, plain_command_build(5, 1, 2, 0), 0);
-    uint8_t verdict = 0xEE;
-    compared++;
-    differ += bus_verdict_give(1, plain_command_build(31, 0, 2, 3), 0, 0, 1000, 1220, NULL, 0, &verdict) != 0 || verdict != GOOD;
+    plain_plan broadcast = {.commands = 1, .first = plain_command_build(31, 0, 2, 3), .last = 1000, .until = 1220};
+    not_good += !judge(&broadcast, NULL, 0);
 }
 
 int main(void)
@@ -130,5 +159,8 @@ int main(void)
         printf("verdict %u: %lu\n", i, verdicts[i]);
     for (unsigned i = 3; i < 8; i++)
         printf("refused %u: %lu\n", i, refusals[i]);
+    for (unsigned i = 0; i < 256; i++)
+        if (looked[i])
+            printf("looked at %u: %lu\n", i, looked[i]);
     return differ || not_good;
 }

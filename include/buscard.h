@@ -48,5 +48,9 @@ uint8_t bus_file_check(const uint8_t *bytes, size_t n, uint64_t *records);
  * first, or after Q). */
 uint8_t bus_verdict_give(uint8_t commands, uint16_t first, uint16_t second, uint8_t bus, uint64_t last, uint64_t until,
                          const uint8_t *records, size_t n, uint8_t *verdict);
+/* The same, and how many of the returned records were looked at for the verdict, 0 to 35. A record counts that decided a step, also one too
+ * late, badly spaced or left over; a missing one does not, nor do the checks that refuse a record. */
+uint8_t bus_verdict_looked(uint8_t commands, uint16_t first, uint16_t second, uint8_t bus, uint64_t last, uint64_t until,
+                           const uint8_t *records, size_t n, uint8_t *verdict, uint8_t *looked);
 
 #endif

@@ -2,7 +2,7 @@
 use mathlib.Core.Path.{_≡_, refl, sym, _∙_}
 use Prim.Native.Nat.{ℕ, _+_, _*_, _≤_}
 use mathlib.Core.Bool.{true, false}
-use mathlib.Core.List.{List}
+use mathlib.Core.List.{List, []}
 use native.Mathlib.Omega.{arith}
 use lib.Dec.{eqb}
 use lib.ListN.{length, take, length-take}
@@ -23,7 +23,8 @@ use Rattle.history.proofs.Phases.{due-under-way}
 use Rattle.history.proofs.Reached.{reachable}
 use Rattle.verdict.specs.Plans.{isPossible, planRefusal, partOf, backOf, expectedOf}
 use Rattle.verdict.specs.Facts.{listenedLeast, endOf}
-use Rattle.verdict.specs.Verdicts.{verdictOver, verdictOf}
+use Rattle.verdict.specs.Verdicts.{findingOver}
+use Rattle.verdict.proofs.Findings.{verdict-of}
 use Rattle.agreement.specs.Agreement.{planFor, statusHeard, JudgedSo, Agrees, AgreesAfterAnyPast, AgreesBroadcast}
 use Rattle.agreement.proofs.Replies.{legal-single, reply-sends}
 use Rattle.agreement.proofs.Heard.{answer-verdict, answer-taken}
@@ -116,8 +117,8 @@ agrees-after-any-past address receive transmit past = agrees _ (reachable addres
 -- ---- to all terminals
 
 pub agrees-broadcast : AgreesBroadcast
-unfolding rule1Answer answerOf isWithheld verdictOf verdictOver expectedOf backOf endOf
+unfolding rule1Answer answerOf isWithheld findingOver expectedOf backOf endOf
 agrees-broadcast s t transmit all until listened = (
   rw all (cond-same (isDue (s .message) t) noAnswer),
-  rw (all, le-ltb (sinceOf (s .message .last .0) (until .0)) listenedLeast (omega arith)),
+  verdict-of (planFor s until) [] (rw all) [] ∙ rw (le-ltb (sinceOf (s .message .last .0) (until .0)) listenedLeast (omega arith)),
 )

@@ -13,12 +13,13 @@ use Rattle.records.specs.Records.{inRange}
 use Rattle.words.proofs.Oddness.{parity-one}
 use Rattle.words.proofs.Inverse.{gaps}
 use Rattle.history.proofs.Tests.{cond-cases}
-use Rattle.verdict.specs.Plans.{isUnjudged, sentOf, partOf, expectedOf}
+use Rattle.verdict.specs.Plans.{isUnjudged, statusFor, sentOf, partOf, expectedOf}
 use Rattle.verdict.specs.Numbers.{good}
 use Rattle.verdict.specs.Facts.{listenedLeast, flagFact, statusFact, dataFact, factOf, endOf}
-use Rattle.verdict.specs.Verdicts.{recordRefusal, verdictOver, verdictOf}
+use Rattle.verdict.specs.Verdicts.{recordRefusal, findingOver, verdictOf}
 use Rattle.verdict.specs.declared.plans.Plan.{Plan}
 use Rattle.verdict.specs.declared.plans.Expected.the-variants.{Data}
+use Rattle.verdict.proofs.Findings.{verdictOver, verdict-step, verdict-of}
 use Rattle.agreement.specs.Agreement.{heardAt, dataFrom, Accepted}
 
 -- ---- a word
@@ -58,12 +59,13 @@ first-decides fact rest goes-on =
 -- data words, as many as are expected, are good
 data-good : (bus : ℕ) (words : List ℕ) (n last until : ℕ) → length words ≡ n → last + wordTicks * length words + listenedLeast ≤ until
     → verdictOver (replicate n Data) last until (dataFrom (last + wordTicks) bus words) ≡ good
-unfolding verdictOver dataFrom factOf endOf
+unfolding findingOver dataFrom factOf endOf
 data-good bus [] zero last until all listened = rw (le-ltb (until - last) listenedLeast (omega arith))
 data-good bus [] (suc n) last until all listened = absurd (omega arith)
 data-good bus (word ∷ words) zero last until all listened = absurd (omega arith)
 data-good bus (word ∷ words) (suc n) last until all listened =
-    rw (data-fact last bus word) (data-good bus words n (last + wordTicks) until (omega arith) (omega arith))
+    verdict-step Data (replicate n Data) last until (heardAt (last + wordTicks) bus dataSync word) (dataFrom (last + wordTicks + wordTicks) bus words)
+    ∙ rw (data-fact last bus word) (data-good bus words n (last + wordTicks) until (omega arith) (omega arith))
 
 module _ (plan : Plan) (w : ℕ) (back : expectedOf plan ≡ partOf w) (bus : ℕ) where
   -- the due time, and what a status word shows then
@@ -78,9 +80,12 @@ module _ (plan : Plan) (w : ℕ) (back : expectedOf plan ≡ partOf w) (bus : �
       → due + wordTicks * length words + listenedLeast ≤ plan .until .0
       → (shownBy status ≡ good → length words ≡ sentOf w)
       → verdictOf plan (heardAt due bus commandSync status ∷ dataFrom (due + wordTicks) bus words) ≡ shownBy status
-  unfolding verdictOf verdictOver factOf
+  unfolding factOf
   answer-verdict status words from listened full =
-      rw (back, status-fact (plan .last .0) bus status (addressOf w) (isUnjudged w) from)
+      verdict-of plan (partOf w) back _
+      ∙ verdict-step (statusFor w) (replicate (sentOf w) Data) (plan .last .0) (plan .until .0) (heardAt due bus commandSync status)
+      (dataFrom (due + wordTicks) bus words)
+      ∙ rw (status-fact (plan .last .0) bus status (addressOf w) (isUnjudged w) from)
       (first-decides (shownBy status) _ (λ clear. data-good bus words (sentOf w) due (plan .until .0) (full clear) listened))
 
 -- ---- they are taken

@@ -17,7 +17,7 @@ use Rattle.terminal.specs.Settling.{firstPlace, tableWords, modeWords, legalRep
 use Rattle.terminal.specs.declared.states.Setup.{Setup}
 use Rattle.terminal.specs.declared.states.Terminal.{Terminal as State}
 use Rattle.terminal.specs.declared.answers.Reply.{Reply}
-use Rattle.terminal.proofs.Counts.{words-most}
+use Rattle.words.proofs.Counts.{words-most}
 use Rattle.history.proofs.Tests.{false≢, cond-cases, and-left, and-right, or-false}
 use Rattle.verdict.specs.Plans.{isSingle, sentBy, sentOf}
 

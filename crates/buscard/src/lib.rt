@@ -6,7 +6,7 @@ ghost use Rattle.buscard.specs.Answers.{oneIf, recordOf, fieldOr, countO
 ghost use Rattle.records.specs.Records.{readOf, refusalOf, writeRefusal, writtenOf};
 ghost use Rattle.records.specs.Files.{countedOf};
 ghost use Rattle.records.specs.declared.forms.WordRecord.{WordRecord};
-ghost use Rattle.verdict.specs.Verdicts.{judgedOf, refusalIn, verdictOr};
+ghost use Rattle.verdict.specs.Verdicts.{judgedOf, refusalIn, verdictOr, lookedOr};
 ghost use Rattle.words.specs.Words.{parityOf, isValid, isSpaced, commandOf, addressOf, transmitOf, subaddressOf, countOf, wordsOf, isMode, statusOf, flagsOf};
 use records::Counted;
 use records::Read;
@@ -221,10 +221,46 @@ pub extern "C" fn bus_file_check(bytes: &[u8], records: &mut u64) -> u8
     }
 }
 
-// Gives 0 and the verdict on a plan of one or two commands, or the number of the refusal. last is E, until is Q; of one command the second word
-// is not read.
-// Tables: records is only read; verdict holds 0 to 11, after a refusal it is as before.
+// Gives 0, the verdict on a plan of one or two commands and how many returned records were looked at for it, or the number of the refusal. last is
+// E, until is Q; of one command the second word is not read.
+// Tables: records is only read; verdict holds 0 to 11, looked 0 to 35, after a refusal both are as before.
 // Refusals: 7, impossible plan; 5, bus, E, Q, Q below E; then record by record 3, 4, 5, 6.
+#[no_mangle]
+pub extern "C" fn bus_verdict_looked(
+    commands: u8,
+    first: u16,
+    second: u16,
+    bus: u8,
+    last: u64,
+    until: u64,
+    records: &[u8],
+    verdict: &mut u8,
+    looked: &mut u8,
+) -> u8
+    ensures refusal { λ r. ⌜ r ≡ refusalIn (judgedOf (planOf commands first second bus last until) (now (records .entry))) ⌝ }
+    ensures verdict { λ _. ⌜ now (verdict .exit) ≡ verdictOr (judgedOf (planOf commands first second bus last until) (now (records .entry))) (now (verdict .entry)) ⌝ }
+    ensures looked { λ _. ⌜ now (looked .exit) ≡ lookedOr (judgedOf (planOf commands first second bus last until) (now (records .entry))) (now (looked .entry)) ⌝ }
+{
+    let plan = Plan {
+        commands,
+        first: CommandWord(first),
+        second: CommandWord(second),
+        bus,
+        last: Moment(last),
+        until: Moment(until),
+    };
+    match plan.judge(records) {
+        Judged::Given(finding) => {
+            *verdict = finding.verdict.0;
+            *looked = finding.looked;
+            Refusal::NONE.0
+        }
+        Judged::Refused(refusal) => refusal.0,
+    }
+}
+
+// Gives 0 and the verdict as bus_verdict_looked does, without the number looked at, or the number of the refusal.
+// Tables: records is only read; verdict holds 0 to 11, after a refusal it is as before. Refusals: as bus_verdict_looked.
 #[no_mangle]
 pub extern "C" fn bus_verdict_give(
     commands: u8,
@@ -239,19 +275,16 @@ pub extern "C" fn bus_verdict_give(
     ensures refusal { λ r. ⌜ r ≡ refusalIn (judgedOf (planOf commands first second bus last until) (now (records .entry))) ⌝ }
     ensures verdict { λ _. ⌜ now (verdict .exit) ≡ verdictOr (judgedOf (planOf commands first second bus last until) (now (records .entry))) (now (verdict .entry)) ⌝ }
 {
-    let plan = Plan {
+    let mut looked = 0;
+    bus_verdict_looked(
         commands,
-        first: CommandWord(first),
-        second: CommandWord(second),
+        first,
+        second,
         bus,
-        last: Moment(last),
-        until: Moment(until),
-    };
-    match plan.judge(records) {
-        Judged::Given(given) => {
-            *verdict = given.0;
-            Refusal::NONE.0
-        }
-        Judged::Refused(refusal) => refusal.0,
-    }
+        last,
+        until,
+        records,
+        verdict,
+        &mut looked,
+    )
 }

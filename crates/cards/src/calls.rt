@@ -28,6 +28,7 @@ pub(crate) enum Name {
     Back,
     Bytes,
     Judge,
+    Looked,
     File,
     // no call
     None,
@@ -44,7 +45,7 @@ const NAME_LETTERS: usize = 9;
 // How the calls are written: a name, which spaces fill up to nine characters, then a letter for each number. r is r or t, w a word, m a
 // mask, * the rest of the line; the others are decimal: f a flag, s a subaddress, k a number of masks, b below 256, p a place of a table,
 // n a number of words, l one of words that are lent, h below 65,536, t below 2^64.
-const FORMS: [[u8; 16]; 23] = [
+const FORMS: [[u8; 16]; 24] = [
     *b"word     tbbbwb ",
     *b"mark     t      ",
     *b"mask     rsm    ",
@@ -67,11 +68,12 @@ const FORMS: [[u8; 16]; 23] = [
     *b"back     tbbbwb ",
     *b"bytes    *      ",
     *b"judge           ",
+    *b"looked          ",
     *b"file            ",
 ];
 
 // The names of these, in the same order.
-const NAMES: [Name; 23] = [
+const NAMES: [Name; 24] = [
     Name::Word,
     Name::Mark,
     Name::Mask,
@@ -94,12 +96,13 @@ const NAMES: [Name; 23] = [
     Name::Back,
     Name::Bytes,
     Name::Judge,
+    Name::Looked,
     Name::File,
 ];
 
 // Gives the name of the form of that number.
 fn name_at(number: usize) -> Name {
-    if number < 23 {
+    if number < 24 {
         return NAMES[number];
     }
     Name::None

@@ -22,6 +22,8 @@ pub(crate) enum Reply {
     Words(usize, usize),
     State,
     Verdict(Verdict),
+    // how many records a verdict looked at
+    Looked(u8),
     Records(u64),
     NoCall,
 }
@@ -139,6 +141,7 @@ fn put_done(out: &mut Block, at: usize, done: Done, receive: &[u16]) -> usize {
         Reply::Words(start, count) => put_words(out, at, words_at(receive, start, count)),
         Reply::State => put_state(out, at, terminal),
         Reply::Verdict(verdict) => put_one(out, at, b"verdict N", verdict.0 as u64),
+        Reply::Looked(count) => put_one(out, at, b"looked N", count as u64),
         Reply::Records(count) => put_one(out, at, b"records N", count),
         Reply::NoCall => put_text(out, at, b"?"),
     }

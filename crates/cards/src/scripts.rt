@@ -94,7 +94,7 @@ impl Bench {
             Name::Send => self.send(numbers[0] as usize, word(numbers[1]), transmit),
             Name::Back => self.back(record_of(numbers), buffer),
             Name::Bytes => self.bytes(last(line, numbers[0] as usize), buffer),
-            Name::Judge => self.judge(buffer),
+            Name::Judge | Name::Looked => self.judge(name, buffer),
             Name::File => self.file(buffer),
             _ => self.perform_bare(call),
         }

@@ -1,6 +1,7 @@
-// The calls about a plan and the byte buffer: plan, back, bytes, judge, file.
+// The calls about a plan and the byte buffer: plan, back, bytes, judge, looked, file.
 use crate::benches::Bench;
 use crate::benches::Done;
+use crate::calls::Name;
 use crate::fillings::Filled;
 use crate::fillings::fill;
 use crate::numbers::byte;
@@ -10,6 +11,7 @@ use crate::replies::Reply;
 use records::Counted;
 use records::RECORD_BYTES;
 use records::WordRecord;
+use verdict::Finding;
 use verdict::Judged;
 use verdict::Plan;
 use words::CommandWord;
@@ -68,14 +70,23 @@ impl Bench {
         }
     }
 
-    // judge
-    pub(crate) fn judge(self, buffer: &[u8]) -> Done {
+    // Replies with the number of a finding that the call asks for.
+    fn found(self, name: Name, finding: Finding) -> Done {
+        let verdict = finding.verdict;
+        match name {
+            Name::Looked => self.replied(Reply::Looked(finding.looked)),
+            _ => self.replied(Reply::Verdict(verdict)),
+        }
+    }
+
+    // judge, looked
+    pub(crate) fn judge(self, name: Name, buffer: &[u8]) -> Done {
         if !self.planned {
             return self.no_call();
         }
         let plan = self.plan;
         match plan.judge(between(buffer, 0, self.buffered)) {
-            Judged::Given(verdict) => self.replied(Reply::Verdict(verdict)),
+            Judged::Given(finding) => self.found(name, finding),
             Judged::Refused(refusal) => self.refused(refusal),
         }
     }

@@ -6,8 +6,9 @@ use Prim.Native.Nat.{ℕ, _+_, _≤_, _<_}
 use native.Mathlib.Omega.{arith}
 use lib.Dec.{eqb, leb, ltb}
 use borrow.Author.Tests.{ltb-true, leb-true}
-use Rattle.words.proofs.Truth.{and-both}
-use Rattle.words.specs.Words.{countOf, codeOf, wordsOf, isTransmit, isMode}
+use Rattle.words.proofs.Counts.{words-most}
+use Rattle.words.proofs.Truth.{and-both, cond-most}
+use Rattle.words.specs.Words.{codeOf, wordsOf, isTransmit, isMode}
 use Rattle.terminal.specs.Commands.{awaitedOf, isLegal}
 use Rattle.terminal.specs.Messages.{isCounting, awaitsData, isWhole, isDue}
 use Rattle.terminal.specs.Settling.{noWords, oneWord, tableWords, modeWords, legalReply, replyOf}
@@ -15,21 +16,12 @@ use Rattle.terminal.specs.declared.states.Message.{Message}
 use Rattle.terminal.specs.declared.states.Terminal.{Terminal as State}
 use Rattle.terminal.specs.declared.answers.Reply.{Reply}
 
-either-le : (b : Bool) (x y n : ℕ) → x ≤ n → y ≤ n → cond b x y ≤ n
-either-le true x y n p q = p
-either-le false x y n p q = q
-
--- a count is at most 32
-pub words-most : (word : ℕ) → wordsOf word ≤ 32
-unfolding wordsOf
-words-most word = either-le (eqb (countOf word) 0) 32 (countOf word) 32 (omega arith) (omega arith)
-
 pub awaited-most : (word : ℕ) → awaitedOf word ≤ 32
 unfolding awaitedOf
 awaited-most word =
-    either-le (isTransmit word) 0 (cond (isMode word) (cond (leb 16 (codeOf word)) 1 0) (wordsOf word)) 32 (omega arith)
-    (either-le (isMode word) (cond (leb 16 (codeOf word)) 1 0) (wordsOf word) 32
-    (either-le (leb 16 (codeOf word)) 1 0 32 (omega arith) (omega arith))
+    cond-most 32 (isTransmit word) 0 (cond (isMode word) (cond (leb 16 (codeOf word)) 1 0) (wordsOf word)) (omega arith)
+    (cond-most 32 (isMode word) (cond (leb 16 (codeOf word)) 1 0) (wordsOf word)
+    (cond-most 32 (leb 16 (codeOf word)) 1 0 (omega arith) (omega arith))
     (words-most word))
 
 -- a message that awaits a data word has fewer than 32

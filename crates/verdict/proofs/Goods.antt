@@ -13,11 +13,12 @@ use Rattle.records.specs.declared.forms.WordRecord.{WordRecord}
 use Rattle.verdict.specs.Plans.{sentOf, partOf, backOf, expectedOf}
 use Rattle.verdict.specs.Numbers.{good, noResponse, waiting, early, late, notValid, wrongSync, wrongAddress, messageError, busy, badlySpaced}
 use Rattle.verdict.specs.Facts.{responseMost, gapLeast, gapMost, listenedLeast, flagFact, statusFact, dataFact, factOf, endOf}
-use Rattle.verdict.specs.Verdicts.{verdictOver, verdictOf}
+use Rattle.verdict.specs.Verdicts.{findingOver, findingOf}
 use Rattle.verdict.specs.Theorems.{GoodStatus, GoodData, Good, over, status, word, GoodExactly}
 use Rattle.verdict.specs.declared.plans.Plan.{Plan}
 use Rattle.verdict.specs.declared.plans.Expected.{Expected}
 use Rattle.verdict.specs.declared.plans.Expected.the-variants.{Status, Data, Nothing}
+use Rattle.verdict.proofs.Findings.{verdictOver, verdict-step}
 use Rattle.verdict.proofs.Tests.{cond-cases, and-left}
 
 -- ---- the facts
@@ -143,7 +144,7 @@ missing true x y p q h = p h
 missing false x y p q h = q h
 
 back-good : (es : List Expected) → Real es → (last until : ℕ) (rs : List WordRecord) → verdictOver es last until rs ≡ good → Good until es last rs
-unfolding verdictOver factOf endOf
+unfolding findingOver factOf endOf
 back-good [] real last until [] h =
     over (ltb-false (sinceOf last until) listenedLeast (passes (ltb (sinceOf last until) listenedLeast) waiting good (λ e. omega arith) h .0))
 back-good [] real last until (r ∷ rs) h = absurd (omega arith)
@@ -153,19 +154,20 @@ back-good (Data ∷ es) real last until [] h =
     absurd (missing (ltb spacingMost (sinceOf last until)) badlySpaced waiting (λ e. omega arith) (λ e. omega arith) h)
 back-good (Nothing ∷ es) real last until rs h = absurd real
 back-good (Status address unjudged ∷ es) real last until (r ∷ rs) h =
-    let first = fact-first (statusFact address unjudged last r) (verdictOver es (r .time .0) until rs) h in
+    let first = fact-first (statusFact address unjudged last r) (verdictOver es (r .time .0) until rs) (sym (verdict-step (Status address unjudged) es last until r rs) ∙ h) in
     status (status-good address unjudged last r (first .0)) (back-good es real (r .time .0) until rs (first .1))
 back-good (Data ∷ es) real last until (r ∷ rs) h =
-    let first = fact-first (dataFact last r) (verdictOver es (r .time .0) until rs) h in
+    let first = fact-first (dataFact last r) (verdictOver es (r .time .0) until rs) (sym (verdict-step Data es last until r rs) ∙ h) in
     word (data-good last r (first .0)) (back-good es real (r .time .0) until rs (first .1))
 
 good-back : {until last : ℕ} {es : List Expected} {rs : List WordRecord} → Good until es last rs → verdictOver es last until rs ≡ good
-unfolding verdictOver factOf endOf
+unfolding findingOver factOf endOf
 good-back {until} {last} (over enough) = rw (le-ltb (sinceOf last until) listenedLeast enough)
-good-back {last = last} (status {address = address} {unjudged = unjudged} {r = r} first rest) = rw (good-status address unjudged last r first) (good-back rest)
-good-back {last = last} (word {r = r} first rest) = rw (good-data last r first) (good-back rest)
+good-back {until} {last} (status {address = address} {unjudged = unjudged} {es = es} {r = r} {rs = rs} first rest) =
+    verdict-step (Status address unjudged) es last until r rs ∙ rw (good-status address unjudged last r first) (good-back rest)
+good-back {until} {last} (word {es = es} {r = r} {rs = rs} first rest) = verdict-step Data es last until r rs ∙ rw (good-data last r first) (good-back rest)
 
 pub good-exactly : GoodExactly
-unfolding verdictOf
+unfolding findingOf
 good-exactly plan rs =
     (back-good (expectedOf plan) (real-expected plan) (plan .last .0) (plan .until .0) rs, good-back)

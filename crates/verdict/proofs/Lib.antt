@@ -1,7 +1,9 @@
+pub mod Tests
 pub mod Places
+pub mod Findings
 pub mod Orders
 pub mod Walks
-pub mod Tests
 pub mod Ranges
 pub mod Longer
 pub mod Goods
+pub mod Prefixes

@@ -1,5 +1,5 @@
 -- Listening longer changes no verdict but 2. Assumes nothing.
-use mathlib.Core.Path.{_≡_, refl, sym, ap, subst}
+use mathlib.Core.Path.{_≡_, refl, sym, ap, subst, _∙_}
 use Prim.Native.Nat.{ℕ, zero, suc, _≤_}
 use mathlib.Core.Bool.{Bool, true, false, cond, _&&_}
 use mathlib.Core.List.{List, [], _∷_}
@@ -21,14 +21,13 @@ use Rattle.records.specs.declared.forms.Read.the-variants.{Record, Refused}
 use Rattle.verdict.specs.Plans.{isPossible, planRefusal, expectedOf}
 use Rattle.verdict.specs.Numbers.{good, noResponse, waiting, badlySpaced}
 use Rattle.verdict.specs.Facts.{factOf, endOf, listenedLeast}
-use Rattle.verdict.specs.Verdicts.{recordRefusal, goOn, returnedFrom, returnedOf, verdictOver, verdictOf, decide, judgedOf, verdictOr}
+use Rattle.verdict.specs.Verdicts.{recordRefusal, goOn, returnedFrom, returnedOf, findingOver, findingOf, verdictOf}
 use Rattle.verdict.specs.Theorems.{withUntil, isFinal, Longer}
-use Rattle.verdict.specs.declared.verdicts.Verdict.{Verdict}
-use Rattle.verdict.specs.declared.judges.Judged.{Judged}
-use Rattle.verdict.specs.declared.judges.Judged.the-variants as judged
+use Rattle.verdict.specs.declared.judges.Finding.{Finding}
 use Rattle.verdict.specs.declared.plans.Plan.{Plan}
 use Rattle.verdict.specs.declared.plans.Expected.{Expected}
 use Rattle.verdict.specs.declared.plans.Expected.the-variants.{Status, Data, Nothing}
+use Rattle.verdict.proofs.Findings.{verdictOver, lookedOver, verdict-step, looked-step, given-taken, taken-given}
 
 -- ---- the verdict
 
@@ -65,15 +64,28 @@ module _ (plan : Plan) (moment : Moment) (later : plan .until .0 ≤ moment .0) 
 
   over-longer : (es : List Expected) (last : ℕ) (rs : List WordRecord)
       → Replaces (verdictOver es last (moment .0) rs) (verdictOver es last (plan .until .0) rs)
-  unfolding verdictOver
+  unfolding findingOver
   over-longer [] last [] = end-longer Nothing last
   over-longer [] last (r ∷ rs) = inl refl
   over-longer (e ∷ es) last [] = end-longer e last
-  over-longer (e ∷ es) last (r ∷ rs) = go (eqb (factOf e last r) good) (over-longer es (r .time .0) rs)
+  over-longer (e ∷ es) last (r ∷ rs) =
+      rw (verdict-step e es last (moment .0) r rs, verdict-step e es last (plan .until .0) r rs)
+      (go (eqb (factOf e last r) good) (over-longer es (r .time .0) rs))
     where
       go : (b : Bool) {x y : ℕ} → Replaces x y → Replaces (cond b x (factOf e last r)) (cond b y (factOf e last r))
       go true rest = rest
       go false rest = inl refl
+
+  -- it is given on as many records
+  looked-longer : (es : List Expected) (last : ℕ) (rs : List WordRecord) → lookedOver es last (moment .0) rs ≡ lookedOver es last (plan .until .0) rs
+  unfolding findingOver
+  looked-longer [] last [] = refl
+  looked-longer [] last (r ∷ rs) = refl
+  looked-longer (e ∷ es) last [] = refl
+  looked-longer (e ∷ es) last (r ∷ rs) =
+      looked-step e es last (moment .0) r rs
+      ∙ ap (λ (n : ℕ). cond (eqb (factOf e last r) good) (suc n) 1) (looked-longer es (r .time .0) rs)
+      ∙ sym (looked-step e es last (plan .until .0) r rs)
 
   -- ---- the plan and its records are taken again
 
@@ -152,40 +164,18 @@ module _ (plan : Plan) (moment : Moment) (later : plan .until .0 ≤ moment .0) 
       go true false h bad = absurd (omega arith)
       go false fit h bad = absurd (omega arith)
 
--- ---- a verdict that is given
-
-record Taken (plan : Plan) (bytes : List ℕ) (v : Verdict) : Type 0 where
-  refusal : planRefusal plan ≡ notRefused
-  records : List WordRecord
-  returned : returnedOf plan bytes ≡ whole records
-  verdict : verdictOf plan records ≡ v .0
-
-given-taken : (plan : Plan) (bytes : List ℕ) (v : Verdict) → judgedOf plan bytes ≡ judged.Given v → Taken plan bytes v
-unfolding judgedOf
-given-taken plan bytes v h = go (eqb (planRefusal plan) notRefused) refl (returnedOf plan bytes) refl h
-  where
-    go : (b : Bool) → eqb (planRefusal plan) notRefused ≡ b
-        → (w : Walk) → returnedOf plan bytes ≡ w
-        → cond b (decide plan w) (judged.Refused (record { 0 = planRefusal plan })) ≡ judged.Given v
-        → Taken plan bytes v
-    go true ok (whole rs) e h =
-        record { refusal = eqb-true (planRefusal plan) notRefused ok; records = rs; returned = e; verdict = ap (λ (j : Judged). verdictOr j 0) h }
-    go true ok (stops n) e h = let z : _≡_ {A = ℕ} 0 1 = cc in absurd (omega arith)
-    go false bad w e h = let z : _≡_ {A = ℕ} 0 1 = cc in absurd (omega arith)
-
-taken-given : (plan : Plan) (bytes : List ℕ) (rs : List WordRecord) → planRefusal plan ≡ notRefused → returnedOf plan bytes ≡ whole rs
-    → judgedOf plan bytes ≡ judged.Given (record { 0 = verdictOf plan rs })
-unfolding judgedOf
-taken-given plan bytes rs ok e = rw (eq-eqb (planRefusal plan) notRefused ok, e)
+-- ---- the whole
 
 pub longer : Longer
-unfolding returnedOf verdictOf expectedOf
-longer plan moment later on-clock bytes v h =
-    let t = given-taken plan bytes v h in
+unfolding returnedOf findingOf expectedOf
+longer plan moment later on-clock bytes f h =
+    let t = given-taken plan bytes f h in
     let rs = t .records in
     let again : returnedOf (withUntil plan moment) bytes ≡ whole rs =
     returned-longer plan moment later (length bytes) (plan .last .0) bytes rs (t .returned) in (
-      record { 0 = verdictOf (withUntil plan moment) rs },
+      findingOf (withUntil plan moment) rs,
       taken-given (withUntil plan moment) bytes rs (plan-longer plan moment later on-clock (t .refusal)) again,
-      subst (λ (x : ℕ). Replaces (verdictOf (withUntil plan moment) rs) x) (t .verdict) (over-longer plan moment later (expectedOf plan) (plan .last .0) rs),
+      looked-longer plan moment later (expectedOf plan) (plan .last .0) rs ∙ ap (λ (g : Finding). g .looked) (t .found),
+      subst (λ (g : Finding). Replaces (verdictOf (withUntil plan moment) rs) (g .verdict .0)) (t .found)
+          (over-longer plan moment later (expectedOf plan) (plan .last .0) rs),
     )

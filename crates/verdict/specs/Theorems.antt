@@ -4,7 +4,8 @@ use mathlib.Core.Path.{_≡_}
 use mathlib.Core.Bool.{Bool, true, false, _||_}
 use mathlib.Core.List.{List, [], _∷_}
 use mathlib.Core.Logic.{_⊎_}
-use lib.Dec.{eqb}
+use lib.Dec.{eqb, ltb}
+use lib.ListN.{length, take}
 use Rattle.words.specs.Words.{onClock, sinceOf, gapOf, isSpaced, addressOf, hasFlag, isValid, commandSync, dataSync}
 use Rattle.words.specs.declared.times.Moment.{Moment}
 use Rattle.words.specs.declared.statuses.Flag.the-variants.{MessageError, Busy}
@@ -12,8 +13,8 @@ use Rattle.records.specs.declared.forms.WordRecord.{WordRecord}
 use Rattle.verdict.specs.Plans.{expectedOf}
 use Rattle.verdict.specs.Numbers.{good, noResponse, waiting, badlySpaced}
 use Rattle.verdict.specs.Facts.{gapLeast, gapMost, listenedLeast}
-use Rattle.verdict.specs.Verdicts.{verdictOf, judgedOf}
-use Rattle.verdict.specs.declared.verdicts.Verdict.{Verdict}
+use Rattle.verdict.specs.Verdicts.{findingOf, verdictOf, lookedOf, judgedOf}
+use Rattle.verdict.specs.declared.judges.Finding.{Finding}
 use Rattle.verdict.specs.declared.judges.Judged.the-variants as judged
 use Rattle.verdict.specs.declared.plans.Plan.{Plan}
 use Rattle.verdict.specs.declared.plans.Expected.{Expected}
@@ -70,9 +71,25 @@ withUntil plan moment =
 abbrev pub isFinal : ℕ → Bool
 isFinal verdict = eqb verdict good || eqb verdict noResponse || eqb verdict badlySpaced
 
--- The same bytes with a later Q on the clock: a verdict is given again, the same, or in place of 2 a final one: longer
+-- The same bytes with a later Q on the clock: a verdict is given again, on as many records, the same, or in place of 2 a final one: longer
 abbrev pub Longer : Type 0
 Longer =
     (plan : Plan) (moment : Moment) → plan .until .0 ≤ moment .0 → onClock (moment .0) ≡ true
-    → (bytes : List ℕ) (v : Verdict) → judgedOf plan bytes ≡ judged.Given v
-    → (w : Verdict) × (judgedOf (withUntil plan moment) bytes ≡ judged.Given w) × ((w .0 ≡ v .0) ⊎ ((v .0 ≡ waiting) × (isFinal (w .0) ≡ true)))
+    → (bytes : List ℕ) (f : Finding) → judgedOf plan bytes ≡ judged.Given f
+    → (g : Finding) × (judgedOf (withUntil plan moment) bytes ≡ judged.Given g)
+    × (g .looked ≡ f .looked)
+    × ((g .verdict .0 ≡ f .verdict .0) ⊎ ((f .verdict .0 ≡ waiting) × (isFinal (g .verdict .0) ≡ true)))
+
+-- ---- how much is looked at (02 n)
+
+-- "is at most 35, however many records are handed over: two statuses, 32 data words and one left over": looked-bound
+abbrev pub LookedBound : Type 0
+LookedBound = (plan : Plan) (bytes : List ℕ) (f : Finding) → judgedOf plan bytes ≡ judged.Given f → f .looked ≤ 35
+
+-- two lists of records that agree up to a number, and on whether there is one more
+abbrev pub AgreeUpTo : ℕ → List WordRecord → List WordRecord → Type 0
+AgreeUpTo n rs others = (take n rs ≡ take n others) × (ltb n (length rs) ≡ ltb n (length others))
+
+-- Two lists that agree up to the number looked at get the same verdict, on as many records: looked-enough
+abbrev pub LookedEnough : Type 0
+LookedEnough = (plan : Plan) (rs others : List WordRecord) → AgreeUpTo (lookedOf plan rs) rs others → findingOf plan others ≡ findingOf plan rs

@@ -1,5 +1,5 @@
 -- Document 01, "Controller verdicts" and "Verdict: ..": the records that are returned, and the verdict on them. Assumes nothing.
-use Prim.Native.Nat.{ℕ, zero, suc, _+_}
+use Prim.Native.Nat.{ℕ, zero, suc}
 use mathlib.Core.Bool.{cond, _&&_}
 use mathlib.Core.List.{List, [], _∷_}
 use lib.Dec.{eqb, ltb, leb}
@@ -17,6 +17,7 @@ use Rattle.verdict.specs.Facts.{factOf, endOf}
 use Rattle.verdict.specs.declared.plans.Plan.{Plan}
 use Rattle.verdict.specs.declared.plans.Expected.{Expected}
 use Rattle.verdict.specs.declared.plans.Expected.the-variants.{Nothing}
+use Rattle.verdict.specs.declared.judges.Finding.{Finding}
 use Rattle.verdict.specs.declared.judges.Judged.{Judged}
 use Rattle.verdict.specs.declared.judges.Judged.the-variants as judged
 
@@ -46,25 +47,41 @@ returnedFrom (suc n) plan before bytes =
 unfoldable pub returnedOf : Plan → List ℕ → Walk
 returnedOf plan bytes = returnedFrom (length bytes) plan (plan .last .0) bytes
 
--- ---- "First fact found decides"
+-- ---- "First fact found decides"; 02 n: "Its result shall also report how many returned records it looked at while judging."
 
--- of the records against what is expected, the last word at that time; "A record left over: 11."
-unfoldable pub verdictOver : List Expected → ℕ → ℕ → List WordRecord → ℕ
-verdictOver [] last until [] = endOf Nothing last until
-verdictOver [] last until (r ∷ rs) = factOf Nothing last r
-verdictOver (e ∷ es) last until [] = endOf e last until
-verdictOver (e ∷ es) last until (r ∷ rs) =
-    cond (eqb (factOf e last r) good) (verdictOver es (r .time .0) until rs) (factOf e last r)
+-- a verdict, with the number of records looked at for it
+abbrev pub finding : ℕ → ℕ → Finding
+finding verdict looked = record { verdict = record { 0 = verdict }; looked = looked }
+
+-- the same, one record more looked at
+abbrev pub oneMore : Finding → Finding
+oneMore f = finding (f .verdict .0) (suc (f .looked))
+
+-- Of the records against what is expected, the last word at that time; "A record left over: 11." A record counts whose time or contents decide a
+-- step, also one too late or badly spaced or left over; a missing one does not (DECISIONS 8).
+unfoldable pub findingOver : List Expected → ℕ → ℕ → List WordRecord → Finding
+findingOver [] last until [] = finding (endOf Nothing last until) 0
+findingOver [] last until (r ∷ rs) = finding (factOf Nothing last r) 1
+findingOver (e ∷ es) last until [] = finding (endOf e last until) 0
+findingOver (e ∷ es) last until (r ∷ rs) =
+    cond (eqb (factOf e last r) good) (oneMore (findingOver es (r .time .0) until rs)) (finding (factOf e last r) 1)
 
 -- of a plan, from "the time E" on
-unfoldable pub verdictOf : Plan → List WordRecord → ℕ
-verdictOf plan rs = verdictOver (expectedOf plan) (plan .last .0) (plan .until .0) rs
+unfoldable pub findingOf : Plan → List WordRecord → Finding
+findingOf plan rs = findingOver (expectedOf plan) (plan .last .0) (plan .until .0) rs
+
+-- its two numbers
+abbrev pub verdictOf : Plan → List WordRecord → ℕ
+verdictOf plan rs = findingOf plan rs .verdict .0
+
+abbrev pub lookedOf : Plan → List WordRecord → ℕ
+lookedOf plan rs = findingOf plan rs .looked
 
 -- ---- the whole
 
--- the verdict on records that are all taken, or the refusal
+-- the verdict on records that are all taken, with the number looked at, or the refusal
 abbrev pub decide : Plan → Walk → Judged
-decide plan (whole rs) = judged.Given (record { 0 = verdictOf plan rs })
+decide plan (whole rs) = judged.Given (findingOf plan rs)
 decide plan (stops n) = judged.Refused n
 
 -- "Verdict: 7; 5 for bus, E, Q, Q below E; then record by record 3, 4, 5, 6, all before any verdict."
@@ -72,16 +89,20 @@ unfoldable pub judgedOf : Plan → List ℕ → Judged
 judgedOf plan bytes =
     cond (eqb (planRefusal plan) notRefused) (decide plan (returnedOf plan bytes)) (judged.Refused (record { 0 = planRefusal plan }))
 
--- The numbers of a result: of its refusal, 0 where there is none; of its verdict, or else what was there.
+-- The numbers of a result: of its refusal, 0 where there is none; of its verdict and of the records looked at, or else what was there.
 abbrev pub refusalIn : Judged → ℕ
-refusalIn (judged.Given v) = notRefused
+refusalIn (judged.Given f) = notRefused
 refusalIn (judged.Refused n) = n .0
 
 abbrev pub verdictOr : Judged → ℕ → ℕ
-verdictOr (judged.Given v) before = v .0
+verdictOr (judged.Given f) before = f .verdict .0
 verdictOr (judged.Refused n) before = before
 
--- ---- the walk as the code makes it, place by place in one pass: for the contracts of inner functions, nothing above rests on it
+abbrev pub lookedOr : Judged → ℕ → ℕ
+lookedOr (judged.Given f) before = f .looked
+lookedOr (judged.Refused n) before = before
+
+-- ---- at a place, as the code asks: for the contracts of inner functions, nothing above rests on it
 
 -- what is expected at a place, counted from 0
 abbrev pub expectedAt : Plan → ℕ → Expected
@@ -91,17 +112,7 @@ expectedAt plan place = getD (expectedOf plan) place Nothing
 unfoldable pub sentFirst : Plan → ℕ
 sentFirst plan = cond (eqb (plan .commands) 1) (cond (isBroadcast (plan .first .0)) 0 (sentOf (plan .first .0))) (sentOf (plan .second .0))
 
--- the verdict from a place on
-unfoldable pub verdictFrom : Plan → ℕ → ℕ → List WordRecord → ℕ
-verdictFrom plan place last [] = endOf (expectedAt plan place) last (plan .until .0)
-verdictFrom plan place last (r ∷ rs) =
-    cond (eqb (factOf (expectedAt plan place) last r) good) (verdictFrom plan (place + 1) (r .time .0) rs)
-    (factOf (expectedAt plan place) last r)
-
--- the fact found so far, 0 for none, with what a record shows, and with the end
-unfoldable pub lookOf : Plan → ℕ → ℕ → ℕ → WordRecord → ℕ
-lookOf plan found place last r = cond (eqb found good) (factOf (expectedAt plan place) last r) found
-
+-- the fact found, or else the verdict where no record is left
 unfoldable pub finishOf : Plan → ℕ → ℕ → ℕ → ℕ
 finishOf plan found place last = cond (eqb found good) (endOf (expectedAt plan place) last (plan .until .0)) found
 

@@ -1,7 +1,8 @@
 // The verdict on a plan: the returned records checked and judged in one walk (01 Controller verdicts). Meaning: specs/Verdicts.antt.
 // Refusals: 7; 5 for bus, E, Q, Q below E; then record by record 3, 4, 5, 6.
 ghost use mathlib.Core.Path.{_≡_};
-ghost use Rattle.verdict.specs.Verdicts.{sentFirst, recordRefusal, lookOf, finishOf, refusedOf, returnedOf, decide, judgedOf};
+ghost use Rattle.verdict.specs.Facts.{factOf};
+ghost use Rattle.verdict.specs.Verdicts.{expectedAt, sentFirst, recordRefusal, finishOf, refusedOf, returnedOf, decide, judgedOf};
 use crate::facts::data_fact;
 use crate::plans::Plan;
 use crate::verdicts::Verdict;
@@ -12,9 +13,15 @@ use records::read_record;
 use words::Moment;
 use words::Refusal;
 
-// A verdict, or the number of the refusal.
+// A verdict, and how many returned records were looked at for it, at most 35. The checks before the verdict are not counted.
+pub struct Finding {
+    pub verdict: Verdict,
+    pub looked: u8,
+}
+
+// A verdict with its number of records, or the number of the refusal.
 pub enum Judged {
-    Given(Verdict),
+    Given(Finding),
     Refused(Refusal),
 }
 
@@ -44,14 +51,11 @@ impl Plan {
         Refusal::OUT_OF_ORDER
     }
 
-    // Gives the fact that is found, or else what the record at this place shows. Most are data words: for them the plan is not asked again.
-    fn look(self, sent: u64, found: Verdict, place: u64, last: Moment, heard: WordRecord) -> Verdict
+    // Gives what the record at this place shows. Most are data words: for them the plan is not asked again.
+    fn look(self, sent: u64, place: u64, last: Moment, heard: WordRecord) -> Verdict
         requires { ⌜ sent ≡ sentFirst self ⌝ }
-        ensures found { λ r. ⌜ r .0 ≡ lookOf self (found .0) place (last .0) heard ⌝ }
+        ensures fact { λ r. ⌜ r .0 ≡ factOf (expectedAt self place) (last .0) heard ⌝ }
     {
-        if found.0 != Verdict::GOOD.0 {
-            return found;
-        }
         if (place != 0) & (place <= sent) {
             return data_fact(last, heard);
         }
@@ -71,13 +75,13 @@ impl Plan {
     }
 
     // Gives the verdict on the returned records of a plan that is not refused, or the first refusal among them. The checks run to the last
-    // record, also past the fact that decides.
+    // record; a record is looked at while no fact is found, and as long as that is so its place is the number looked at before it.
     fn walk(self, records: &[u8]) -> Judged
         ensures judged { λ r. ⌜ r ≡ decide self (returnedOf self (now (records .entry))) ⌝ }
     {
         let sent = self.sent_first();
         let mut at: usize = 0;
-        let mut place: u64 = 0;
+        let mut looked: u64 = 0;
         let mut last = self.last.0;
         let mut found: u8 = Verdict::GOOD.0;
         while at < records.len() {
@@ -89,16 +93,19 @@ impl Plan {
             if refusal.0 != Refusal::NONE.0 {
                 return Judged::Refused(refusal);
             }
-            found = self.look(sent, Verdict(found), place, Moment(last), heard)
-                .0;
+            if found == Verdict::GOOD.0 {
+                found = self.look(sent, looked, Moment(last), heard).0;
+                looked += 1;
+            }
             last = heard.time.0;
-            place += 1;
             at += RECORD_BYTES;
         }
-        Judged::Given(self.finish(Verdict(found), place, Moment(last)))
+        let verdict = self.finish(Verdict(found), looked, Moment(last));
+        let looked = looked as u8;
+        Judged::Given(Finding { verdict, looked })
     }
 
-    // Gives the verdict on the returned records, 16 bytes each, or the number of the refusal.
+    // Gives the verdict on the returned records, 16 bytes each, and how many were looked at, or the number of the refusal.
     // Tables: records is only read. Refusals: 7; 5 for bus, E, Q, Q below E; then record by record 3, 4, 5, 6.
     pub fn judge(self, records: &[u8]) -> Judged
         ensures judged { λ r. ⌜ r ≡ judgedOf self (now (records .entry)) ⌝ }

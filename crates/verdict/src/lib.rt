@@ -5,6 +5,7 @@ mod judges;
 mod plans;
 mod verdicts;
 
+pub use judges::Finding;
 pub use judges::Judged;
 pub use plans::Plan;
 pub use verdicts::Verdict;

@@ -1,6 +1,6 @@
 -- The count is at most 32, so the words of a subaddress lie in the table. Assumes nothing.
 use native.Mathlib.Omega.{arith}
-use Rattle.terminal.proofs.Counts.{words-most}
+use Rattle.words.proofs.Counts.{words-most}
 use borrow.Author.Needs.{needs}
 use Rattle.terminal.proofs.answers.Reply.from_table.Statement.{statement}
 use Rattle.terminal.proofs.answers.Reply.from_table.Tie as tie

@@ -2,7 +2,7 @@
 use mathlib.Core.Path.{sym, _∙_}
 use Rattle.terminal.specs.Settling.{storedOf}
 use native.Mathlib.Omega.{arith}
-use Rattle.terminal.proofs.Counts.{words-most}
+use Rattle.words.proofs.Counts.{words-most}
 use borrow.Author.Needs.{needs}
 use Rattle.terminal.proofs.states.Terminal.store_data.Statement.{statement}
 use Rattle.terminal.proofs.states.Terminal.store_data.Tie as tie

@@ -1,19 +1,22 @@
--- The loop's invariant: what is left at the place, with the fact found so far, is what the whole comes to. Assumes nothing.
+-- The loop's invariant: what is left, with the fact found and the number looked at so far, is what the whole comes to. Assumes nothing.
 use mathlib.Core.Path.{sym, ap, _∙_}
 use Prim.Native.Nat.{ℕ, _-_}
+use mathlib.Core.Logic.{⊎-elim}
+use native.Mathlib.Omega.{arith}
 use lib.ListN.{length}
-use Rattle.verdict.specs.Verdicts.{returnedOf, decide}
+use Rattle.verdict.specs.Verdicts.{returnedOf, finding, decide}
 use Rattle.verdict.specs.declared.judges.Judged.the-variants as judged
-use Rattle.verdict.proofs.Walks.{Left, start, stop, unread, refused, next}
+use Rattle.verdict.proofs.Walks.{Left, start, stop, unread, refused, look-on, pass-on}
+use Rattle.verdict.proofs.Ranges.{looked-fits}
 use borrow.Author.Needs.{needs}
 use Rattle.verdict.proofs.plans.Plan.walk.Statement.{statement}
 use Rattle.verdict.proofs.plans.Plan.walk.Tie as tie
 
 abbrev Inv-loop : tie.InvT-loop
-Inv-loop self records sent at₀ place₀ last₀ found₀ at place last found = Left self records (decide self (returnedOf self records)) at place last found
+Inv-loop self records sent at₀ looked₀ last₀ found₀ at looked last found = Left self records (decide self (returnedOf self records)) at looked last found
 
 abbrev μ-loop : tie.MeasureT-loop
-μ-loop self records sent at₀ place₀ last₀ found₀ at place last found = length records - at
+μ-loop self records sent at₀ looked₀ last₀ found₀ at looked last found = length records - at
 
 sent-first-requires : tie.Need-sent-first-requires Inv-loop μ-loop
 sent-first-requires c κs = search needs
@@ -62,8 +65,8 @@ returns-2 c =
 look-requires : tie.Need-look-requires Inv-loop μ-loop
 look-requires c κs = search needs
 
-add-place : tie.Need-add-place Inv-loop μ-loop
-add-place c = search needs
+add-looked : tie.Need-add-looked Inv-loop μ-loop
+add-looked c = search needs
 
 add-at : tie.Need-add-at Inv-loop μ-loop
 add-at c = search needs
@@ -73,18 +76,29 @@ loop-less c = search needs
 
 loop-again : tie.Need-loop-again Inv-loop μ-loop
 loop-again c =
-    let g = c .before .before .before .before .before .before in
+    let g = c .before .before .before .before .before .before .before in
     let l = g .before .before .before .before in
-    rw (c .look .ensures)
-    (next _ _ _ _ _ _ _ _ (l .before .loop .inv) (l .loop-test .taken) (g .before .before .read-record .ensures) _ (g .read .given .1)
-    (sym (c .before .before .before .before .record-refusal .ensures) ∙ c .before .if1 .left))
+    let ok = sym (c .before .before .before .before .before .record-refusal .ensures) ∙ c .before .before .if1 .left in
+    ⊎-elim
+    (λ looks.
+    rw (looks .2, looks .3 ∙ looks .1 .ensures)
+    (look-on _ _ _ _ _ _ _ _ (l .before .loop .inv) (l .loop-test .taken) (g .before .before .read-record .ensures) _ (g .read .given .1) (looks .0 .taken) ok))
+    (λ passes.
+    rw (passes .1, passes .2)
+    (pass-on _ _ _ _ _ _ _ _ (l .before .loop .inv) (l .loop-test .taken) (g .before .before .read-record .ensures) _ (g .read .given .1) (passes .0 .left) ok))
+    (c .if2 .came)
 
 finish-requires : tie.Need-finish-requires Inv-loop μ-loop
 finish-requires c κs = search needs
 
+cast-looked : tie.Need-cast-looked Inv-loop μ-loop
+cast-looked c =
+    let entry = c .before .before .before .before .before in
+    omega (arith, looked-fits (entry .args .self) (returnedOf (entry .args .self) (entry .args .records .now)) _ (stop _ _ _ _ _ _ _ (c .before .before .loop .inv) (c .before .loop-test .left)))
+
 returns-3 : tie.Need-returns-3 Inv-loop μ-loop
 returns-3 c =
-    ap (λ (n : ℕ). judged.Given (record { 0 = n })) (c .finish .ensures) ∙ stop _ _ _ _ _ _ _ (c .before .before .loop .inv) (c .before .loop-test .left)
+    ap (λ (n : ℕ). judged.Given (finding n (c .before .before .loop .looked))) (c .finish .ensures) ∙ stop _ _ _ _ _ _ _ (c .before .before .loop .inv) (c .before .loop-test .left)
 
 pub walk-spec : {M : Type 1} → statement M
 walk-spec =
@@ -105,9 +119,10 @@ walk-spec =
     record-refusal-requires
     returns-2
     look-requires
-    add-place
+    add-looked
     add-at
     loop-less
     loop-again
     finish-requires
+    cast-looked
     returns-3)
