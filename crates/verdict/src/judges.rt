@@ -101,6 +101,7 @@ impl Plan {
             at += RECORD_BYTES;
         }
         let verdict = self.finish(Verdict(found), looked, Moment(last));
+        // No plan, possible or not, expects more than 66 records: the number fits.
         let looked = looked as u8;
         Judged::Given(Finding { verdict, looked })
     }
