@@ -1,21 +1,22 @@
--- The records that are looked at, with whether there is one more, are enough for the finding. Assumes nothing.
+-- The records that are looked at, with whether there is one more, are enough for the finding; so are the first 36. Assumes nothing.
 use mathlib.Core.Path.{_≡_, refl, sym, ap, subst, _∙_}
-use Prim.Native.Nat.{ℕ, suc}
+use Prim.Native.Nat.{ℕ, zero, suc, _<_}
 use mathlib.Core.Bool.{Bool, true, false, cond, true≢false}
 use mathlib.Core.List.{List, [], _∷_}
 use native.Mathlib.Omega.{arith}
 use lib.Dec.{eqb, ltb}
-use lib.ListN.{length}
+use lib.ListN.{length, take}
 use borrow.Author.Tests.{ltb-true, ltb-false, lt-ltb, le-ltb}
 use Rattle.records.specs.declared.forms.WordRecord.{WordRecord}
 use Rattle.verdict.specs.Plans.{expectedOf}
 use Rattle.verdict.specs.Numbers.{good}
 use Rattle.verdict.specs.Facts.{factOf}
 use Rattle.verdict.specs.Verdicts.{finding, oneMore, findingOver, findingOf}
-use Rattle.verdict.specs.Theorems.{AgreeUpTo, LookedEnough}
+use Rattle.verdict.specs.Theorems.{AgreeUpTo, LookedEnough, LookedFirst}
 use Rattle.verdict.specs.declared.judges.Finding.{Finding}
 use Rattle.verdict.specs.declared.plans.Expected.{Expected}
 use Rattle.verdict.proofs.Findings.{lookedOver}
+use Rattle.verdict.proofs.Ranges.{looked-most}
 
 ltb-suc : (m n : ℕ) → ltb (suc m) (suc n) ≡ ltb m n
 ltb-suc m n = go (ltb m n) refl
@@ -71,3 +72,17 @@ over-enough (e ∷ es) last until (r ∷ rs) others agreed =
 pub looked-enough : LookedEnough
 unfolding findingOf
 looked-enough plan rs others = over-enough (expectedOf plan) (plan .last .0) (plan .until .0) rs others
+
+-- a list agrees with its first records up to fewer of them
+agree-take : (n m : ℕ) (rs : List WordRecord) → n < m → AgreeUpTo n rs (take m rs)
+agree-take n zero rs few = absurd (omega arith)
+agree-take zero (suc m) [] few = (refl, refl)
+agree-take (suc n) (suc m) [] few = (refl, refl)
+agree-take zero (suc m) (r ∷ rs) few =
+    (refl, lt-ltb 0 (length (r ∷ rs)) (omega arith) ∙ sym (lt-ltb 0 (length (r ∷ take m rs)) (omega arith)))
+agree-take (suc n) (suc m) (r ∷ rs) few =
+    let rest = agree-take n m rs (omega arith) in
+    (ap (λ (l : List WordRecord). r ∷ l) (rest .0), ltb-suc n (length rs) ∙ rest .1 ∙ sym (ltb-suc n (length (take m rs))))
+
+pub looked-first : LookedFirst
+looked-first plan ok rs = looked-enough plan rs (take 36 rs) (agree-take _ 36 rs (omega (arith, looked-most plan ok rs)))

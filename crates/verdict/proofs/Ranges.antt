@@ -20,7 +20,7 @@ use Rattle.records.specs.declared.forms.WordRecord.{WordRecord}
 use Rattle.verdict.specs.Plans.{isPair, isPossible, planRefusal, sentBy, sentOf, partOf, backOf, expectedOf}
 use Rattle.verdict.specs.Numbers.{good}
 use Rattle.verdict.specs.Facts.{flagFact, statusFact, dataFact, factOf, endOf}
-use Rattle.verdict.specs.Verdicts.{findingOver, findingOf, decide, lookedOr}
+use Rattle.verdict.specs.Verdicts.{findingOver, findingOf, lookedOf, decide, lookedOr}
 use Rattle.verdict.specs.Theorems.{VerdictRange, LookedBound}
 use Rattle.verdict.specs.declared.judges.Finding.{Finding}
 use Rattle.verdict.specs.declared.judges.Judged.{Judged}
@@ -130,15 +130,18 @@ possible-pair : (plan : Plan) → isPossible plan ≡ true → eqb (plan .comman
 unfolding isPossible
 possible-pair plan possible two = and-both (eqb (plan .commands) 2) _ (rw two at possible) .1
 
-pub looked-bound : LookedBound
+-- of a plan that is not refused
+pub looked-most : (plan : Plan) → planRefusal plan ≡ notRefused → (rs : List WordRecord) → lookedOf plan rs ≤ 35
 unfolding findingOf
-looked-bound plan bytes f h =
-    let t = given-taken plan bytes f h in
-    let possible = taken-possible plan (t .refusal) in
-    let same = ap (λ (g : Finding). g .looked) (t .found) in
+looked-most plan ok rs =
+    let possible = taken-possible plan ok in
     omega (
       arith,
-      same,
-      over-most (expectedOf plan) (plan .last .0) (plan .until .0) (t .records),
+      over-most (expectedOf plan) (plan .last .0) (plan .until .0) rs,
       expected-most plan 0 (λ two. first-sends-none (plan .first .0) (plan .second .0) (possible-pair plan possible two)),
     )
+
+pub looked-bound : LookedBound
+looked-bound plan bytes f h =
+    let t = given-taken plan bytes f h in
+    omega (arith, ap (λ (g : Finding). g .looked) (t .found), looked-most plan (t .refusal) (t .records))

@@ -7,10 +7,11 @@ use mathlib.Core.Logic.{_⊎_}
 use lib.Dec.{eqb, ltb}
 use lib.ListN.{length, take}
 use Rattle.words.specs.Words.{onClock, sinceOf, gapOf, isSpaced, addressOf, hasFlag, isValid, commandSync, dataSync}
+use Rattle.words.specs.Refusals.{notRefused}
 use Rattle.words.specs.declared.times.Moment.{Moment}
 use Rattle.words.specs.declared.statuses.Flag.the-variants.{MessageError, Busy}
 use Rattle.records.specs.declared.forms.WordRecord.{WordRecord}
-use Rattle.verdict.specs.Plans.{expectedOf}
+use Rattle.verdict.specs.Plans.{planRefusal, expectedOf}
 use Rattle.verdict.specs.Numbers.{good, noResponse, waiting, badlySpaced}
 use Rattle.verdict.specs.Facts.{gapLeast, gapMost, listenedLeast}
 use Rattle.verdict.specs.Verdicts.{findingOf, verdictOf, lookedOf, judgedOf}
@@ -93,3 +94,7 @@ AgreeUpTo n rs others = (take n rs ≡ take n others) × (ltb n (length rs) ≡ 
 -- Two lists that agree up to the number looked at get the same verdict, on as many records: looked-enough
 abbrev pub LookedEnough : Type 0
 LookedEnough = (plan : Plan) (rs others : List WordRecord) → AgreeUpTo (lookedOf plan rs) rs others → findingOf plan others ≡ findingOf plan rs
+
+-- So the first 36 are enough, however many there are, of a plan that is not refused: looked-first
+abbrev pub LookedFirst : Type 0
+LookedFirst = (plan : Plan) → planRefusal plan ≡ notRefused → (rs : List WordRecord) → findingOf plan (take 36 rs) ≡ findingOf plan rs

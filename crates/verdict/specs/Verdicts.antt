@@ -1,4 +1,5 @@
--- Document 01, "Controller verdicts" and "Verdict: ..": the records that are returned, and the verdict on them. Assumes nothing.
+-- Document 01, "Controller verdicts" and "Verdict: ..", and 02 n: the records that are returned, the verdict on them, and how many it looked at.
+-- Assumes nothing.
 use Prim.Native.Nat.{ℕ, zero, suc}
 use mathlib.Core.Bool.{cond, _&&_}
 use mathlib.Core.List.{List, [], _∷_}
@@ -47,7 +48,8 @@ returnedFrom (suc n) plan before bytes =
 unfoldable pub returnedOf : Plan → List ℕ → Walk
 returnedOf plan bytes = returnedFrom (length bytes) plan (plan .last .0) bytes
 
--- ---- "First fact found decides"; 02 n: "Its result shall also report how many returned records it looked at while judging."
+-- ---- "First fact found decides"; 02 n: "Its result shall also report how many returned records it looked at while judging. The number must equal that
+-- in the rules' own walk"
 
 -- a verdict, with the number of records looked at for it
 abbrev pub finding : ℕ → ℕ → Finding
@@ -79,7 +81,7 @@ lookedOf plan rs = findingOf plan rs .looked
 
 -- ---- the whole
 
--- the verdict on records that are all taken, with the number looked at, or the refusal
+-- the verdict on records that are all taken, with the number looked at, or the refusal; 02 n: "The checks before the verdict are not counted."
 abbrev pub decide : Plan → Walk → Judged
 decide plan (whole rs) = judged.Given (findingOf plan rs)
 decide plan (stops n) = judged.Refused n
