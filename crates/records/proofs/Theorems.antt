@@ -1,13 +1,14 @@
 -- What readers and writers of records may rely on. Assumes nothing.
-use mathlib.Core.Path.{_≡_, refl, sym, ap, subst, _∙_}
+use mathlib.Core.Path.{_≡_, refl, sym, ap, ap₂, subst, _∙_}
 use mathlib.Core.Bool.{Bool, true, false, cond, _&&_}
 use Prim.Native.Nat.{ℕ, zero, suc, _^_, _<_, _≤_}
 use native.Mathlib.Nat.{le-of-suc-le-suc, not-suc-le-zero}
 use native.Mathlib.Omega.{arith}
 use mathlib.Core.List.{List, [], _∷_, _++_}
-use lib.ListN.{length, getD, take, drop, length-take, length-drop}
+use lib.ListN.{length, getD, take, drop, length-append, length-take, length-drop}
+use lib.Seq.{take-append-le}
 use lib.Dec.{ltb, leb, eqb}
-use borrow.Author.Tests.{ltb-true, ltb-false, eqb-true, eqb-false}
+use borrow.Author.Tests.{ltb-true, ltb-false, eqb-true, eqb-false, le-ltb}
 use Rattle.words.proofs.Truth.{and-both}
 use Rattle.words.specs.Words.{onClock}
 use Rattle.records.specs.Numbers.{numberAfter, numberOf, bytesOf}
@@ -92,6 +93,19 @@ heads-same : (n : ℕ) (s : List ℕ) → n ≤ length s → s ≡ heads n s
 heads-same zero s l = refl
 heads-same (suc n) [] l = absurd (not-suc-le-zero l)
 heads-same (suc n) (x ∷ s) l = ap (λ (k : List ℕ). x ∷ k) (heads-same n s (le-of-suc-le-suc l))
+
+-- what stands after a record is not looked at
+pub read-front : (s after : List ℕ) → 16 ≤ length s → readOf (s ++ after) ≡ readOf s
+unfolding readOf
+read-front s after l =
+    let long : 16 ≤ length (s ++ after) = omega (arith, length-append s after) in
+    let record-same : recordAt (s ++ after) ≡ recordAt s =
+    subst (λ (k : List ℕ). recordAt (k ++ after) ≡ recordAt k) (sym (heads-same 16 s l)) refl in
+    let length-same : take 2 (s ++ after) ≡ take 2 s = take-append-le 2 s after (omega arith) in
+    rw (le-ltb _ _ long, le-ltb _ _ l)
+    (ap₂
+    (λ (two : List ℕ) (r : WordRecord). cond (eqb (numberOf two) 14) (cond (inRange r) (Record r) (Refused (record { 0 = 5 }))) (Refused (record { 0 = 4 })))
+    length-same record-same)
 
 -- 16 bytes with the right length are the form of the record that they spell
 spelled-form : (s : List ℕ) → 16 ≤ length s → Bytes s → numberOf (take 2 s) ≡ 14 → take 16 s ≡ formOf (recordAt s)

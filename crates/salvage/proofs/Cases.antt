@@ -1,0 +1,174 @@
+-- The cases of the machine's steps, each from the facts that the code's tests give. Assumes nothing.
+use mathlib.Core.Path.{_≡_, refl, sym, ap, _∙_}
+use mathlib.Core.Bool.{Bool, true, false}
+use Prim.Native.Nat.{ℕ, suc, _+_, _-_, _/_, _≤_}
+use native.Mathlib.Omega.{arith}
+use mathlib.Core.List.{List, [], _∷_}
+use lib.ListN.{length, getD, take, drop, length-take}
+use lib.Seq.{take-all}
+use borrow.Author.Tests.{eq-eqb, ne-eqb}
+use Rattle.words.specs.declared.refusals.Refusal.{Refusal}
+use Rattle.words.specs.declared.times.Moment.{Moment}
+use Rattle.records.specs.Records.{readOf}
+use Rattle.records.specs.declared.forms.WordRecord.{WordRecord}
+use Rattle.records.specs.declared.forms.Read.{Read}
+use Rattle.records.specs.declared.forms.Read.the-variants.{Record, Refused}
+use Rattle.salvage.specs.Pieces.{inTime, chosen, choiceOf, afterFirst}
+use Rattle.salvage.specs.Machine.{sum, settledKept, settledSkipped, runEnded, gatheredOf, gatheredIn, firstOf, oneMore, begunOf, fedBy, fedOf, behindFirst, roomOf, isSettledOf, allBytes, totalsOf, endedOf}
+use Rattle.salvage.specs.declared.choices.Last.{Last}
+use Rattle.salvage.specs.declared.choices.Choice.{Choice}
+use Rattle.salvage.specs.declared.choices.Choice.the-variants.{Keeps, Skips}
+use Rattle.salvage.specs.declared.stretches.Stretch.{Stretch}
+use Rattle.salvage.specs.declared.salvages.First.{First}
+use Rattle.salvage.specs.declared.salvages.First.the-variants.{Missing, Kept, Changed}
+use Rattle.salvage.specs.declared.salvages.Run.{Run}
+use Rattle.salvage.specs.declared.salvages.Settled.{Settled}
+use Rattle.salvage.specs.declared.salvages.Salvage.{Salvage}
+use Rattle.salvage.specs.declared.salvages.Fed.{Fed}
+use Rattle.salvage.specs.declared.salvages.Totals.{Totals}
+use Rattle.salvage.specs.declared.salvages.Ended.{Ended}
+use Rattle.salvage.specs.declared.salvages.Ended.the-variants.{Whole, Early}
+
+-- ---- what becomes of the bytes at a place; g is what the code read
+
+module _ (last : Last) (s : List ℕ) (g : Read) (e : g ≡ readOf s) where
+  pub choice-refused : (n : Refusal) → g ≡ Refused n → Skips ≡ choiceOf last s
+  unfolding choiceOf
+  choice-refused n q = ap (chosen last) (sym q ∙ e)
+
+  pub choice-kept : (r : WordRecord) (b : Bool) → g ≡ Record r → b ≡ inTime last (r .time .0) → b ≡ true → Keeps (r .time) ≡ choiceOf last s
+  unfolding choiceOf
+  choice-kept r b q t h = rw (← e, q, ← t, h)
+
+  pub choice-late : (r : WordRecord) (b : Bool) → g ≡ Record r → b ≡ inTime last (r .time .0) → b ≡ false → Skips ≡ choiceOf last s
+  unfolding choiceOf
+  choice-late r b q t h = rw (← e, q, ← t, h)
+
+-- ---- what is settled
+
+module _ (s : Settled) (stretch : Stretch) where
+  pub settled-none : stretch .bytes ≡ 0 → s ≡ settledKept s stretch
+  unfolding settledKept
+  settled-none h = rw (eq-eqb _ _ h)
+
+  pub settled-some : {end place records : ℕ} → (stretch .bytes ≡ 0 → ⊥)
+      → end ≡ sum (s .run .place) (s .run .length) → place ≡ sum end (stretch .bytes) → records ≡ sum (s .records) (stretch .bytes / 16)
+      → record { last = stretch .last; run = record { place = place; length = 0 }; records = records; skipped = s .skipped } ≡ settledKept s stretch
+  unfolding settledKept
+  settled-some h e p r = rw (ne-eqb _ _ h, p, e, r)
+
+  pub run-none : stretch .bytes ≡ 0 → record { place = 0; length = 0 } ≡ runEnded s stretch
+  unfolding runEnded
+  run-none h = rw (eq-eqb _ _ h)
+
+  pub run-some : (stretch .bytes ≡ 0 → ⊥) → s .run ≡ runEnded s stretch
+  unfolding runEnded
+  run-some h = rw (ne-eqb _ _ h)
+
+-- ---- the first byte
+
+pub first-kept : (byte : ℕ) → byte ≡ 1 → Kept ≡ firstOf byte
+unfolding firstOf
+first-kept byte h = rw (eq-eqb _ _ h)
+
+pub first-changed : (byte : ℕ) → (byte ≡ 1 → ⊥) → Changed ≡ firstOf byte
+unfolding firstOf
+first-changed byte h = rw (ne-eqb _ _ h)
+
+-- ---- the file's first byte, and none of it
+
+begun-empty : (s : Salvage) (room chunk : List ℕ) → length chunk ≡ 0 → gatheredOf s Missing room chunk ≡ begunOf s room chunk
+unfolding begunOf
+begun-empty s room [] l = refl
+begun-empty s room (x ∷ more) l = absurd (omega arith)
+
+after-empty : (chunk : List ℕ) → length chunk ≡ 0 → chunk ≡ afterFirst chunk
+after-empty [] l = refl
+after-empty (x ∷ more) l = absurd (omega arith)
+
+begun-more : (s : Salvage) (room chunk : List ℕ) → (length chunk ≡ 0 → ⊥)
+    → oneMore (gatheredOf s (firstOf (getD chunk 0 0)) room (take (length chunk - 1) (drop 1 chunk))) ≡ begunOf s room chunk
+unfolding begunOf
+begun-more s room [] h = absurd (h refl)
+begun-more s room (x ∷ more) h =
+    ap (λ (k : List ℕ). oneMore (gatheredOf s (firstOf x) room k)) (take-all (suc (length more) - 1) more (omega arith))
+
+after-more : (chunk : List ℕ) → (length chunk ≡ 0 → ⊥) → take (length chunk - 1) (drop 1 chunk) ≡ afterFirst chunk
+after-more [] h = absurd (h refl)
+after-more (x ∷ more) h = take-all (suc (length more) - 1) more (omega arith)
+
+module _ (s : Salvage) (room room′ chunk : List ℕ) (fed : Fed) where
+  pub begun-none : length chunk ≡ 0 → fed ≡ gatheredOf s Missing room chunk → fed ≡ begunOf s room chunk
+  begun-none l e = e ∙ begun-empty s room chunk l
+
+  pub begun-none-room : length chunk ≡ 0 → room′ ≡ gatheredIn s room chunk → room′ ≡ gatheredIn s room (afterFirst chunk)
+  begun-none-room l e = e ∙ ap (gatheredIn s room) (after-empty chunk l)
+
+  module _ (h : length chunk ≡ 0 → ⊥) where
+    pub begun-some : {first : First} → first ≡ firstOf (getD chunk 0 0) → fed ≡ gatheredOf s first room (take (length chunk - 1) (drop 1 chunk))
+        → record { salvage = fed .salvage; taken = fed .taken + 1 } ≡ begunOf s room chunk
+    begun-some f e = ap oneMore (e ∙ ap (λ (first : First). gatheredOf s first room (take (length chunk - 1) (drop 1 chunk))) f) ∙ begun-more s room chunk h
+
+    pub begun-some-room : room′ ≡ gatheredIn s room (take (length chunk - 1) (drop 1 chunk)) → room′ ≡ gatheredIn s room (afterFirst chunk)
+    begun-some-room e = e ∙ ap (gatheredIn s room) (after-more chunk h)
+
+    -- what was taken, with the first byte, is no more than the chunk
+    pub begun-fits : (first : First) → fed ≡ gatheredOf s first room (take (length chunk - 1) (drop 1 chunk)) → fed .taken + 1 ≤ length chunk
+    unfolding gatheredOf
+    begun-fits first e = omega (arith, ap (λ (k : Fed). k .taken) e, length-take (length chunk - 1) (drop 1 chunk))
+
+-- ---- feeding, by what the first byte is
+
+module _ (s : Salvage) (room room′ chunk : List ℕ) (fed : Fed) where
+  pub fed-first : s .first ≡ Missing → fed ≡ begunOf s room chunk → fed ≡ fedOf s room chunk
+  unfolding fedOf
+  fed-first h e = e ∙ sym (ap (λ (first : First). fedBy first s room chunk) h)
+
+  pub fed-first-room : s .first ≡ Missing → room′ ≡ gatheredIn s room (afterFirst chunk) → room′ ≡ roomOf s room chunk
+  unfolding roomOf
+  fed-first-room h e = e ∙ sym (ap (λ (first : First). gatheredIn s room (behindFirst first chunk)) h)
+
+  pub fed-kept : s .first ≡ Kept → fed ≡ gatheredOf s (s .first) room chunk → fed ≡ fedOf s room chunk
+  unfolding fedOf
+  fed-kept h e = e ∙ ap (λ (first : First). gatheredOf s first room chunk) h ∙ sym (ap (λ (first : First). fedBy first s room chunk) h)
+
+  pub fed-kept-room : s .first ≡ Kept → room′ ≡ gatheredIn s room chunk → room′ ≡ roomOf s room chunk
+  unfolding roomOf
+  fed-kept-room h e = e ∙ sym (ap (λ (first : First). gatheredIn s room (behindFirst first chunk)) h)
+
+  pub fed-changed : s .first ≡ Changed → fed ≡ gatheredOf s (s .first) room chunk → fed ≡ fedOf s room chunk
+  unfolding fedOf
+  fed-changed h e = e ∙ ap (λ (first : First). gatheredOf s first room chunk) h ∙ sym (ap (λ (first : First). fedBy first s room chunk) h)
+
+  pub fed-changed-room : s .first ≡ Changed → room′ ≡ gatheredIn s room chunk → room′ ≡ roomOf s room chunk
+  unfolding roomOf
+  fed-changed-room h e = e ∙ sym (ap (λ (first : First). gatheredIn s room (behindFirst first chunk)) h)
+
+-- ---- the end
+
+pub size-none : (first : First) (run : Run) → first ≡ Missing → 0 ≡ allBytes first run
+unfolding allBytes
+size-none first run h = sym (ap (λ (f : First). allBytes f run) h)
+
+module _ (first : First) (run : Run) (n : ℕ) (e : n ≡ sum (run .place) (run .length)) where
+  pub size-kept : first ≡ Kept → n ≡ allBytes first run
+  unfolding allBytes
+  size-kept h = e ∙ sym (ap (λ (f : First). allBytes f run) h)
+
+  pub size-changed : first ≡ Changed → n ≡ allBytes first run
+  unfolding allBytes
+  size-changed h = e ∙ sym (ap (λ (f : First). allBytes f run) h)
+
+pub totals : (s : Salvage) (after : Settled) (n bytes : ℕ) → n ≡ s .to - s .from → after ≡ settledSkipped (s .settled) n → bytes ≡ allBytes (s .first) (after .run)
+    → record { first = s .first; run = after .run; records = after .records; skipped = after .skipped; bytes = bytes } ≡ totalsOf s
+unfolding totalsOf
+totals s after n bytes w a b = rw (b, a, w)
+
+module _ (s : Salvage) (b : Bool) (e : b ≡ isSettledOf s) where
+  pub whole : (t : Totals) → b ≡ true → t ≡ totalsOf s → Whole t ≡ endedOf s
+  unfolding endedOf
+  whole t h q = rw (← e, h, q)
+
+  pub early : b ≡ false → Early ≡ endedOf s
+  unfolding endedOf
+  early h = rw (← e, h)

@@ -1,0 +1,127 @@
+-- What stands at the front of some bytes, and how the definitions go on behind it. Assumes nothing.
+use mathlib.Core.Path.{_≡_, refl, sym, ap, subst, _∙_}
+use mathlib.Core.Bool.{Bool, true, false, cond}
+use Prim.Native.Nat.{ℕ, zero, suc, _+_, _-_, _≤_, _<_}
+use native.Mathlib.Omega.{arith}
+use native.Mathlib.Nat.{lt-of-not-le}
+use native.Mathlib.Decide.{decLe}
+use mathlib.Core.Logic.{dite}
+use mathlib.Core.List.{List, [], _∷_, _++_}
+use lib.ListN.{length, take, drop, length-drop, drop-of-length-le}
+use lib.Seq.{drop-drop, drop-nil}
+use borrow.Author.Tests.{lt-ltb, le-ltb}
+use Rattle.words.specs.declared.times.Moment.{Moment}
+use Rattle.records.specs.Records.{readOf}
+use Rattle.records.specs.declared.forms.Read.{Read}
+use Rattle.records.specs.declared.forms.Read.the-variants.{Record, Refused}
+use Rattle.records.proofs.Cases.{short, rest-read}
+use Rattle.records.proofs.Theorems.{read-front}
+use Rattle.salvage.specs.Pieces.{inTime, chosen, choiceOf, Piece, kept, skipped, pieceAt, piecesFrom}
+use Rattle.salvage.specs.Machine.{longer, keptAt, keptFrom, skippedAt, skippedFrom}
+use Rattle.salvage.specs.declared.choices.Last.{Last}
+use Rattle.salvage.specs.declared.choices.Last.the-variants.{At}
+use Rattle.salvage.specs.declared.choices.Choice.{Choice}
+use Rattle.salvage.specs.declared.choices.Choice.the-variants.{Keeps, Skips}
+use Rattle.salvage.specs.declared.stretches.Stretch.{Stretch}
+
+-- ---- the choice
+
+pub never : (t : Moment) → Skips ≡ Keeps t → ⊥
+never t h = let z : _≡_ {A = ℕ} 0 1 = cc in omega arith
+
+-- fewer than 16 bytes are skipped
+pub choice-short : (last : Last) (s : List ℕ) → length s < 16 → choiceOf last s ≡ Skips
+unfolding choiceOf
+choice-short last s l = ap (chosen last) (sym (short s l))
+
+pub choice-long : (last : Last) (s : List ℕ) (t : Moment) → choiceOf last s ≡ Keeps t → 16 ≤ length s
+choice-long last s t q = dite (decLe 16 (length s)) (λ l. l) (λ few. absurd (never t (sym (choice-short last s (lt-of-not-le few)) ∙ q)))
+
+-- and no more than 16 are looked at
+pub choice-front : (last : Last) (s after : List ℕ) → 16 ≤ length s → choiceOf last (s ++ after) ≡ choiceOf last s
+unfolding choiceOf
+choice-front last s after l = ap (chosen last) (read-front s after l)
+
+-- ---- the pieces
+
+pieces-pass : (n : ℕ) (last : Last) (s : List ℕ) → piecesFrom n last s ≡ piecesFrom 0 last (drop n s)
+unfolding piecesFrom
+pieces-pass zero last s = refl
+pieces-pass (suc n) last [] = refl
+pieces-pass (suc n) last (x ∷ s) = pieces-pass n last s
+
+pub pieces-keep : (last : Last) (s : List ℕ) (t : Moment) → choiceOf last s ≡ Keeps t → piecesFrom 0 last s ≡ kept (take 16 s) ∷ piecesFrom 0 (At t) (drop 16 s)
+unfolding piecesFrom
+pieces-keep last [] t q = absurd (never t (sym (choice-short last [] (omega arith)) ∙ q))
+pieces-keep last (x ∷ s) t q = rw q (ap (λ (ps : List Piece). kept (take 16 (x ∷ s)) ∷ ps) (pieces-pass 15 (At t) s))
+
+pub pieces-skip : (last : Last) (x : ℕ) (s : List ℕ) → choiceOf last (x ∷ s) ≡ Skips → piecesFrom 0 last (x ∷ s) ≡ skipped x ∷ piecesFrom 0 last s
+unfolding piecesFrom
+pieces-skip last x s q = rw q
+
+-- by what is chosen
+pub by-choice : (last : Last) (s : List ℕ) (P : Type 0) → ((t : Moment) → choiceOf last s ≡ Keeps t → P) → (choiceOf last s ≡ Skips → P) → P
+by-choice last s P keep skip = by (choiceOf last s) refl
+  where
+    by : (g : Choice) → choiceOf last s ≡ g → P
+    by (Keeps t) q = keep t q
+    by Skips q = skip q
+
+-- ---- the stretches
+
+kept-pass : (n : ℕ) (last : Last) (s : List ℕ) → keptFrom n last s ≡ keptFrom 0 last (drop n s)
+unfolding keptFrom
+kept-pass zero last s = refl
+kept-pass (suc n) last [] = refl
+kept-pass (suc n) last (x ∷ s) = kept-pass n last s
+
+pub kept-keep : (last : Last) (s : List ℕ) (t : Moment) → choiceOf last s ≡ Keeps t → keptFrom 0 last s ≡ longer (keptFrom 0 (At t) (drop 16 s))
+unfolding keptFrom
+kept-keep last [] t q = absurd (never t (sym (choice-short last [] (omega arith)) ∙ q))
+kept-keep last (x ∷ s) t q = rw q (ap longer (kept-pass 15 (At t) s))
+
+pub kept-skip : (last : Last) (s : List ℕ) → choiceOf last s ≡ Skips → keptFrom 0 last s ≡ record { bytes = 0; last = last }
+unfolding keptFrom
+kept-skip last [] q = refl
+kept-skip last (x ∷ s) q = rw q
+
+pub skipped-short : (last : Last) (s : List ℕ) → length s < 16 → skippedFrom last s ≡ 0
+unfolding skippedFrom
+skipped-short last [] l = refl
+skipped-short last (x ∷ s) l = rw (lt-ltb _ _ l)
+
+pub skipped-kept : (last : Last) (s : List ℕ) (t : Moment) → choiceOf last s ≡ Keeps t → skippedFrom last s ≡ 0
+unfolding skippedFrom
+skipped-kept last [] t q = refl
+skipped-kept last (x ∷ s) t q = rw (le-ltb _ _ (choice-long last (x ∷ s) t q), q)
+
+pub skipped-one : (last : Last) (x : ℕ) (s : List ℕ) → 16 ≤ length (x ∷ s) → choiceOf last (x ∷ s) ≡ Skips → skippedFrom last (x ∷ s) ≡ skippedFrom last s + 1
+unfolding skippedFrom
+skipped-one last x s l q = rw (le-ltb _ _ l, q)
+
+-- ---- no stretch is longer than the bytes
+
+kept-within-by : (n : ℕ) (last : Last) (s : List ℕ) → length s ≤ n → keptFrom 0 last s .bytes ≤ length s
+kept-within-by zero last s l =
+    let none = kept-skip last s (choice-short last s (omega arith)) in
+    omega (arith, ap (λ (k : Stretch). k .bytes) none)
+kept-within-by (suc n) last s l =
+    by-choice last s (keptFrom 0 last s .bytes ≤ length s)
+    (λ t q.
+    let long = choice-long last s t q in
+    let rest = kept-within-by n (At t) (drop 16 s) (omega (arith, length-drop 16 s)) in
+    omega (arith, long, rest, length-drop 16 s, ap (λ (k : Stretch). k .bytes) (kept-keep last s t q)))
+    (λ q. omega (arith, ap (λ (k : Stretch). k .bytes) (kept-skip last s q)))
+
+pub kept-within : (last : Last) (s : List ℕ) → keptFrom 0 last s .bytes ≤ length s
+kept-within last s = kept-within-by (length s) last s (omega arith)
+
+pub skipped-within : (last : Last) (s : List ℕ) → skippedFrom last s ≤ length s
+skipped-within last [] = omega (arith, skipped-short last [] (omega arith))
+skipped-within last (x ∷ s) =
+    dite (decLe 16 (length (x ∷ s)))
+    (λ long.
+    by-choice last (x ∷ s) (skippedFrom last (x ∷ s) ≤ length (x ∷ s))
+    (λ t q. omega (arith, skipped-kept last (x ∷ s) t q))
+    (λ q. omega (arith, skipped-one last x s long q, skipped-within last s)))
+    (λ few. omega (arith, skipped-short last (x ∷ s) (lt-of-not-le few)))

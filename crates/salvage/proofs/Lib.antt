@@ -1,0 +1,4 @@
+pub mod Cases
+pub mod Fronts
+pub mod Loops
+pub mod Shifts

@@ -1,0 +1,20 @@
+-- The law of the totals, at what the calls give. Assumes nothing.
+use Rattle.salvage.proofs.Cases.{totals}
+use borrow.Author.Needs.{needs}
+use Rattle.salvage.proofs.salvages.Salvage.total.Statement.{statement}
+use Rattle.salvage.proofs.salvages.Salvage.total.Tie as tie
+
+waiting-requires : tie.Need-waiting-requires
+waiting-requires c κs = search needs
+
+skip-requires : tie.Need-skip-requires
+skip-requires c κs = search needs
+
+all-bytes-requires : tie.Need-all-bytes-requires
+all-bytes-requires c κs = search needs
+
+returns : tie.Need-returns
+returns c = search (totals, needs)
+
+pub total-spec : {M : Type 1} → statement M
+total-spec = tie.close (tie.spec waiting-requires skip-requires all-bytes-requires returns)

@@ -1,0 +1,16 @@
+-- Congruence with the two sums. Assumes nothing.
+use borrow.Author.Needs.{needs}
+use Rattle.salvage.proofs.salvages.Settled.skip.Statement.{statement}
+use Rattle.salvage.proofs.salvages.Settled.skip.Tie as tie
+
+wrapping-add-u64-requires : tie.Need-wrapping-add-u64-requires
+wrapping-add-u64-requires c κs = search needs
+
+wrapping-add-u64-requires-2 : tie.Need-wrapping-add-u64-requires-2
+wrapping-add-u64-requires-2 c κs = search needs
+
+returns : tie.Need-returns
+returns c = cc
+
+pub skip-spec : {M : Type 1} → statement M
+skip-spec = tie.close (tie.spec wrapping-add-u64-requires wrapping-add-u64-requires-2 returns)

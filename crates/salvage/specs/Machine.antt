@@ -1,0 +1,177 @@
+-- The machine that is fed a damaged file chunk by chunk (02 c): what each of its calls gives. That together they give what Pieces.antt says of the
+-- whole file, whatever the chunks, is `chunks-do-not-matter`. Assumes nothing.
+use Prim.Native.Nat.{ℕ, zero, suc, _+_, _-_, _/_, _%_, _^_, min}
+use mathlib.Core.Bool.{Bool, cond}
+use mathlib.Core.List.{List, [], _∷_, _++_}
+use lib.Dec.{ltb, eqb}
+use lib.ListN.{length, take, drop}
+use Rattle.records.specs.Records.{recordBytes}
+use Rattle.records.specs.Files.{version}
+use Rattle.salvage.specs.Pieces.{choiceOf, afterFirst}
+use Rattle.salvage.specs.declared.choices.Last.{Last}
+use Rattle.salvage.specs.declared.choices.Last.the-variants.{Nothing, At}
+use Rattle.salvage.specs.declared.choices.Choice.{Choice}
+use Rattle.salvage.specs.declared.choices.Choice.the-variants.{Keeps, Skips}
+use Rattle.salvage.specs.declared.stretches.Stretch.{Stretch}
+use Rattle.salvage.specs.declared.salvages.First.{First}
+use Rattle.salvage.specs.declared.salvages.First.the-variants.{Missing, Kept, Changed}
+use Rattle.salvage.specs.declared.salvages.Run.{Run}
+use Rattle.salvage.specs.declared.salvages.Settled.{Settled}
+use Rattle.salvage.specs.declared.salvages.Salvage.{Salvage}
+use Rattle.salvage.specs.declared.salvages.Fed.{Fed}
+use Rattle.salvage.specs.declared.salvages.Progress.{Progress}
+use Rattle.salvage.specs.declared.salvages.Totals.{Totals}
+use Rattle.salvage.specs.declared.salvages.Ended.{Ended}
+use Rattle.salvage.specs.declared.salvages.Ended.the-variants.{Whole, Early}
+
+-- A sum as the machine counts, in 64 bits: exact for every file of fewer than 2^64 bytes.
+abbrev pub sum : ℕ → ℕ → ℕ
+sum a b = (a + b) % 2 ^ 64
+
+-- ---- stretches at the front of some bytes
+
+-- One record more at the front of a stretch.
+abbrev pub longer : Stretch → Stretch
+longer stretch = record { bytes = recordBytes + stretch .bytes; last = stretch .last }
+
+abbrev pub keptAt : Choice → Last → (ℕ → Last → Stretch) → Stretch
+keptAt (Keeps time) last after = longer (after 15 (At time))
+keptAt Skips last after = record { bytes = 0; last = last }
+
+-- The records that are kept one after the other, the first `inside` bytes belonging to one that is kept already.
+unfoldable pub keptFrom : ℕ → Last → List ℕ → Stretch
+keptFrom inside last [] = record { bytes = 0; last = last }
+keptFrom (suc inside) last (byte ∷ rest) = keptFrom inside last rest
+keptFrom zero last (byte ∷ rest) = keptAt (choiceOf last (byte ∷ rest)) last (λ (inside : ℕ) (last : Last). keptFrom inside last rest)
+
+abbrev pub skippedAt : Choice → ℕ → ℕ
+skippedAt (Keeps time) after = 0
+skippedAt Skips after = after + 1
+
+-- The bytes that are skipped, up to a record that is kept or to where fewer than 16 bytes are left.
+unfoldable pub skippedFrom : Last → List ℕ → ℕ
+skippedFrom last [] = 0
+skippedFrom last (byte ∷ rest) =
+    cond (ltb (length (byte ∷ rest)) recordBytes) 0 (skippedAt (choiceOf last (byte ∷ rest)) (skippedFrom last rest))
+
+-- ---- what is settled
+
+unfoldable pub settledKept : Settled → Stretch → Settled
+settledKept s stretch =
+    cond (eqb (stretch .bytes) 0) s
+    (record {
+      last = stretch .last;
+      run = record { place = sum (sum (s .run .place) (s .run .length)) (stretch .bytes); length = 0 };
+      records = sum (s .records) (stretch .bytes / recordBytes);
+      skipped = s .skipped;
+    })
+
+abbrev pub settledSkipped : Settled → ℕ → Settled
+settledSkipped s bytes = record {
+  last = s .last;
+  run = record { place = s .run .place; length = sum (s .run .length) bytes };
+  records = s .records;
+  skipped = sum (s .skipped) bytes;
+}
+
+-- The run that a stretch of records ends, of length 0 where none does.
+unfoldable pub runEnded : Settled → Stretch → Run
+runEnded s stretch = cond (eqb (stretch .bytes) 0) (record { place = 0; length = 0 }) (s .run)
+
+-- ---- the machine
+
+abbrev pub startOf : Salvage
+startOf = record {
+  first = Missing;
+  settled = record { last = Nothing; run = record { place = 1; length = 0 }; records = 0; skipped = 0 };
+  from = 0;
+  to = 0;
+}
+
+-- The bytes that wait.
+abbrev pub waitingIn : Salvage → List ℕ → List ℕ
+waitingIn s room = take (s .to - s .from) (drop (s .from) room)
+
+-- ---- feeding
+
+-- Of the bytes handed over, as many as the room has room for are taken, and wait behind those that wait already.
+abbrev pub takenOf : Salvage → List ℕ → List ℕ → ℕ
+takenOf s room more = min (length room - length (waitingIn s room)) (length more)
+
+unfoldable pub gatheredOf : Salvage → First → List ℕ → List ℕ → Fed
+gatheredOf s first room more = record {
+  salvage = record { first = first; settled = s .settled; from = 0; to = length (waitingIn s room) + takenOf s room more };
+  taken = takenOf s room more;
+}
+
+unfoldable pub gatheredIn : Salvage → List ℕ → List ℕ → List ℕ
+gatheredIn s room more =
+    waitingIn s room ++ (take (takenOf s room more) more ++ drop (length (waitingIn s room) + takenOf s room more) room)
+
+-- "walks the bytes after the first": the file's first byte is looked at and does not wait.
+unfoldable pub firstOf : ℕ → First
+firstOf byte = cond (eqb byte version) Kept Changed
+
+abbrev pub oneMore : Fed → Fed
+oneMore fed = record { salvage = fed .salvage; taken = fed .taken + 1 }
+
+unfoldable pub begunOf : Salvage → List ℕ → List ℕ → Fed
+begunOf s room [] = gatheredOf s Missing room []
+begunOf s room (byte ∷ more) = oneMore (gatheredOf s (firstOf byte) room more)
+
+abbrev pub fedBy : First → Salvage → List ℕ → List ℕ → Fed
+fedBy Missing s room chunk = begunOf s room chunk
+fedBy Kept s room chunk = gatheredOf s Kept room chunk
+fedBy Changed s room chunk = gatheredOf s Changed room chunk
+
+unfoldable pub fedOf : Salvage → List ℕ → List ℕ → Fed
+fedOf s room chunk = fedBy (s .first) s room chunk
+
+abbrev pub behindFirst : First → List ℕ → List ℕ
+behindFirst Missing chunk = afterFirst chunk
+behindFirst Kept chunk = chunk
+behindFirst Changed chunk = chunk
+
+unfoldable pub roomOf : Salvage → List ℕ → List ℕ → List ℕ
+roomOf s room chunk = gatheredIn s room (behindFirst (s .first) chunk)
+
+-- ---- asking
+
+-- Of the bytes that wait: records that are kept, then bytes that are skipped.
+abbrev pub stretchOf : Salvage → List ℕ → Stretch
+stretchOf s room = keptFrom 0 (s .settled .last) (waitingIn s room)
+
+abbrev pub skippedOf : Salvage → List ℕ → ℕ
+skippedOf s room = skippedFrom (stretchOf s room .last) (drop (stretchOf s room .bytes) (waitingIn s room))
+
+unfoldable pub askedOf : Salvage → List ℕ → Progress
+askedOf s room = record {
+  salvage = record {
+    first = s .first;
+    settled = settledSkipped (settledKept (s .settled) (stretchOf s room)) (skippedOf s room);
+    from = s .from + (stretchOf s room .bytes + skippedOf s room);
+    to = s .to;
+  };
+  run = runEnded (s .settled) (stretchOf s room);
+  from = s .from;
+  kept = stretchOf s room .bytes;
+}
+
+-- ---- the end
+
+unfoldable pub isSettledOf : Salvage → Bool
+isSettledOf s = ltb (s .to - s .from) recordBytes
+
+unfoldable pub allBytes : First → Run → ℕ
+allBytes Missing run = 0
+allBytes Kept run = sum (run .place) (run .length)
+allBytes Changed run = sum (run .place) (run .length)
+
+-- The bytes that wait are skipped: fewer than 16 are no record.
+unfoldable pub totalsOf : Salvage → Totals
+totalsOf s =
+    let after = settledSkipped (s .settled) (s .to - s .from) in
+    record { first = s .first; run = after .run; records = after .records; skipped = after .skipped; bytes = allBytes (s .first) (after .run) }
+
+unfoldable pub endedOf : Salvage → Ended
+endedOf s = cond (isSettledOf s) (Whole (totalsOf s)) Early

@@ -1,0 +1,48 @@
+// Whether the bytes at a place are kept (02 c). Meaning: specs/Pieces.antt. Refusals: none.
+ghost use mathlib.Core.Path.{_≡_};
+ghost use Rattle.salvage.specs.Pieces.{inTime, choiceOf};
+use records::Read;
+use records::read_record;
+use words::Moment;
+use words::Ticks;
+
+// "at most 100,000,000 ticks after it"
+const STEP_MOST: Ticks = Ticks(100_000_000);
+
+// The time of the record that was kept last, of either bus, or that none was.
+pub enum Last {
+    Nothing,
+    At(Moment),
+}
+
+// What becomes of the bytes at a place: 16 are kept, a record of that time, or one is skipped.
+pub(crate) enum Choice {
+    Keeps(Moment),
+    Skips,
+}
+
+impl Last {
+    // Says whether a record of that time may be kept next: "(the first kept may have any time)".
+    fn allows(self, time: Moment) -> bool
+        ensures answer { λ r. ⌜ r ≡ inTime self (time .0) ⌝ }
+    {
+        match self {
+            Last::Nothing => true,
+            Last::At(before) => (before.0 <= time.0) & (time.since(before).0 <= STEP_MOST.0),
+        }
+    }
+
+    // Gives what becomes of the bytes.
+    pub(crate) fn choose(self, bytes: &[u8]) -> Choice
+        ensures choice { λ r. ⌜ r ≡ choiceOf self (now (bytes .entry)) ⌝ }
+    {
+        let Read::Record(record) = read_record(bytes) else {
+            return Choice::Skips;
+        };
+        let time = record.time;
+        if self.allows(time) {
+            return Choice::Keeps(time);
+        }
+        Choice::Skips
+    }
+}

@@ -1,0 +1,299 @@
+// The machine: fed any chunk, asked for what is settled, ended (02 c). Meaning: specs/Machine.antt. Refusals: none.
+ghost use mathlib.Core.Path.{_≡_};
+ghost use Prim.Native.Nat.{_-_};
+ghost use Rattle.salvage.specs.Machine.{settledKept, settledSkipped, runEnded, firstOf, allBytes, gatheredOf, gatheredIn, begunOf};
+ghost use Rattle.salvage.specs.Pieces.{afterFirst};
+ghost use Rattle.salvage.specs.Machine.{startOf, fedOf, roomOf, askedOf, isSettledOf, totalsOf, endedOf};
+use crate::choices::Last;
+use crate::rooms::fill;
+use crate::rooms::least;
+use crate::rooms::move_front;
+use crate::stretches::Stretch;
+use crate::stretches::keep_stretch;
+use crate::stretches::skip_stretch;
+use records::RECORD_BYTES;
+use records::VERSION;
+use std::num::wrapping_add_u64;
+
+// The first byte of the file: none has come, it is 1, or it is another.
+pub enum First {
+    Missing,
+    Kept,
+    Changed,
+}
+
+// Skipped bytes that stand together: the place of the first, counted from 0 in the damaged file, and how many they are.
+pub struct Run {
+    pub place: u64,
+    pub length: u64,
+}
+
+// What is settled so far: the last kept, the run that reaches up to here (its length is 0 where a record was kept right before), and how
+// many records were kept and bytes skipped.
+pub struct Settled {
+    pub last: Last,
+    pub run: Run,
+    pub records: u64,
+    pub skipped: u64,
+}
+
+// The machine. The bytes that wait stand in the caller's room, from one place up to another.
+pub struct Salvage {
+    pub first: First,
+    pub settled: Settled,
+    pub from: usize,
+    pub to: usize,
+}
+
+// The machine after a chunk, and how many bytes of the chunk it took.
+pub struct Fed {
+    pub salvage: Salvage,
+    pub taken: usize,
+}
+
+// The machine after a question; the run that has ended, of length 0 where none has; and where in the room the bytes to keep stand, and how
+// many: they come behind the run.
+pub struct Progress {
+    pub salvage: Salvage,
+    pub run: Run,
+    pub from: usize,
+    pub kept: usize,
+}
+
+// What the whole file came to: its first byte, the run at its end (length 0: none), records kept, bytes skipped, and all its bytes.
+pub struct Totals {
+    pub first: First,
+    pub run: Run,
+    pub records: u64,
+    pub skipped: u64,
+    pub bytes: u64,
+}
+
+// What an end gives; it is too early while 16 bytes or more wait.
+pub enum Ended {
+    Whole(Totals),
+    Early,
+}
+
+impl Settled {
+    // Gives what is settled with a stretch of records more.
+    fn keep(self, stretch: Stretch) -> Settled
+        ensures settled { λ r. ⌜ r ≡ settledKept self stretch ⌝ }
+    {
+        if stretch.bytes == 0 {
+            return self;
+        }
+        let bytes = stretch.bytes as u64;
+        let last = stretch.last;
+        let end = wrapping_add_u64(self.run.place, self.run.length);
+        let place = wrapping_add_u64(end, bytes);
+        Settled {
+            last,
+            run: Run { place, length: 0 },
+            records: wrapping_add_u64(self.records, bytes / 16),
+            skipped: self.skipped,
+        }
+    }
+
+    // Gives what is settled with so many skipped bytes more.
+    fn skip(self, bytes: u64) -> Settled
+        ensures settled { λ r. ⌜ r ≡ settledSkipped self bytes ⌝ }
+    {
+        let last = self.last;
+        Settled {
+            last,
+            run: Run {
+                place: self.run.place,
+                length: wrapping_add_u64(self.run.length, bytes),
+            },
+            records: self.records,
+            skipped: wrapping_add_u64(self.skipped, bytes),
+        }
+    }
+
+    // Gives the run that a stretch of records ends.
+    fn ended(self, stretch: Stretch) -> Run
+        ensures run { λ r. ⌜ r ≡ runEnded self stretch ⌝ }
+    {
+        if stretch.bytes == 0 {
+            return Run {
+                place: 0,
+                length: 0,
+            };
+        }
+        self.run
+    }
+}
+
+// Says what a first byte is.
+fn judge_first(byte: u8) -> First
+    ensures first { λ r. ⌜ r ≡ firstOf byte ⌝ }
+{
+    if byte == VERSION {
+        First::Kept
+    } else {
+        First::Changed
+    }
+}
+
+// Gives the size of the file at whose end the run stands.
+fn all_bytes(first: First, run: Run) -> u64
+    ensures bytes { λ r. ⌜ r ≡ allBytes first run ⌝ }
+{
+    let size = wrapping_add_u64(run.place, run.length);
+    match first {
+        First::Missing => 0,
+        First::Kept => size,
+        First::Changed => size,
+    }
+}
+
+impl Salvage {
+    // Gives the machine before any byte.
+    // Tables: none. Refusals: none.
+    pub fn start() -> Salvage
+        ensures salvage { λ r. ⌜ r ≡ startOf ⌝ }
+    {
+        Salvage {
+            first: First::Missing,
+            settled: Settled {
+                last: Last::Nothing,
+                run: Run {
+                    place: 1,
+                    length: 0,
+                },
+                records: 0,
+                skipped: 0,
+            },
+            from: 0,
+            to: 0,
+        }
+    }
+
+    // Gives how many bytes wait.
+    fn waiting(self) -> usize
+        ensures count { λ r. ⌜ r ≡ self .to - self .from ⌝ }
+    {
+        if self.to < self.from {
+            0
+        } else {
+            self.to - self.from
+        }
+    }
+
+    // Puts bytes behind those that wait, as far as the room holds them.
+    fn gather(self, first: First, room: &mut [u8], chunk: &[u8]) -> Fed
+        ensures fed { λ r. ⌜ r ≡ gatheredOf self first (now (room .entry)) (now (chunk .entry)) ⌝ }
+        ensures room { λ _. ⌜ now (room .exit) ≡ gatheredIn self (now (room .entry)) (now (chunk .entry)) ⌝ }
+    {
+        let end = least(self.to, room.len());
+        let begin = least(self.from, end);
+        let waiting = end - begin;
+        move_front(room, begin, waiting);
+        let taken = fill(room, waiting, chunk);
+        let settled = self.settled;
+        Fed {
+            salvage: Salvage {
+                first,
+                settled,
+                from: 0,
+                to: waiting + taken,
+            },
+            taken,
+        }
+    }
+
+    // Looks at the file's first byte, where there is one, and puts those behind it into the room.
+    fn begin(self, room: &mut [u8], chunk: &[u8]) -> Fed
+        ensures fed { λ r. ⌜ r ≡ begunOf self (now (room .entry)) (now (chunk .entry)) ⌝ }
+        ensures room { λ _. ⌜ now (room .exit) ≡ gatheredIn self (now (room .entry)) (afterFirst (now (chunk .entry))) ⌝ }
+    {
+        if chunk.len() == 0 {
+            return self.gather(First::Missing, room, chunk);
+        }
+        let fed = self.gather(judge_first(chunk[0]), room, &chunk[1..]);
+        let salvage = fed.salvage;
+        Fed {
+            salvage,
+            taken: fed.taken + 1,
+        }
+    }
+
+    // Feeds the next bytes of the file, and gives how many of them were taken: all that the room holds. The others are fed again after `ask`.
+    // Tables: room holds the bytes that wait, old and new, at its front, and is else as before; chunk is only read. Refusals: none.
+    pub fn feed(self, room: &mut [u8], chunk: &[u8]) -> Fed
+        ensures fed { λ r. ⌜ r ≡ fedOf self (now (room .entry)) (now (chunk .entry)) ⌝ }
+        ensures room { λ _. ⌜ now (room .exit) ≡ roomOf self (now (room .entry)) (now (chunk .entry)) ⌝ }
+    {
+        let first = self.first;
+        match first {
+            First::Missing => self.begin(room, chunk),
+            First::Kept => self.gather(first, room, chunk),
+            First::Changed => self.gather(first, room, chunk),
+        }
+    }
+
+    // Settles the next bytes that wait: a stretch of records to keep, then bytes to skip. It goes on as long as 16 bytes or more wait.
+    // Tables: room is only read. Refusals: none.
+    pub fn ask(self, room: &[u8]) -> Progress
+        ensures progress { λ r. ⌜ r ≡ askedOf self (now (room .entry)) ⌝ }
+    {
+        let end = least(self.to, room.len());
+        let begin = least(self.from, end);
+        let before = self.settled;
+        let last = before.last;
+        let stretch = keep_stretch(last, &room[begin..end]);
+        let kept = stretch.last;
+        let behind = begin + stretch.bytes;
+        let skipped = skip_stretch(kept, &room[behind..end]);
+        let settled = before.keep(stretch).skip(skipped as u64);
+        let first = self.first;
+        Progress {
+            salvage: Salvage {
+                first,
+                settled,
+                from: self.from + (stretch.bytes + skipped),
+                to: self.to,
+            },
+            run: before.ended(stretch),
+            from: self.from,
+            kept: stretch.bytes,
+        }
+    }
+
+    // Says whether everything that can be settled is: fewer than 16 bytes wait.
+    // Tables: none. Refusals: none.
+    pub fn is_settled(self) -> bool
+        ensures answer { λ r. ⌜ r ≡ isSettledOf self ⌝ }
+    {
+        self.waiting() < RECORD_BYTES
+    }
+
+    // Gives what the file came to, where the bytes that wait are skipped.
+    fn total(self) -> Totals
+        ensures totals { λ r. ⌜ r ≡ totalsOf self ⌝ }
+    {
+        let first = self.first;
+        let settled = self.settled;
+        let after = settled.skip(self.waiting() as u64);
+        let run = after.run;
+        Totals {
+            first,
+            run,
+            records: after.records,
+            skipped: after.skipped,
+            bytes: all_bytes(first, run),
+        }
+    }
+
+    // Gives what the file came to, where it has no more bytes: those that wait are skipped. While 16 or more wait, it is too early.
+    // Tables: none. Refusals: none.
+    pub fn end(self) -> Ended
+        ensures ended { λ r. ⌜ r ≡ endedOf self ⌝ }
+    {
+        if self.is_settled() {
+            return Ended::Whole(self.total());
+        }
+        Ended::Early
+    }
+}
