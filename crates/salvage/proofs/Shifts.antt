@@ -93,7 +93,7 @@ filled room chunk last at r n l e m q =
 
 -- ---- the bytes that wait, as the code finds them
 
-drop-take : (m n : ℕ) (s : List ℕ) → drop m (take n s) ≡ take (n - m) (drop m s)
+pub drop-take : (m n : ℕ) (s : List ℕ) → drop m (take n s) ≡ take (n - m) (drop m s)
 drop-take zero n s = ap (λ (k : ℕ). take k s) {x = n} {y = n - 0} (omega arith)
 drop-take (suc m) zero s = ap (λ (k : ℕ). take k (drop (suc m) s)) {x = 0} {y = 0 - suc m} (omega arith)
 drop-take (suc m) (suc n) [] = sym (take-nil (suc n - suc m))
