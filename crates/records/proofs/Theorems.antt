@@ -8,14 +8,13 @@ use mathlib.Core.List.{List, [], _∷_, _++_}
 use lib.ListN.{length, getD, take, drop, length-append, length-take, length-drop}
 use lib.Seq.{take-append-le}
 use lib.Dec.{ltb, leb, eqb}
-use borrow.Author.Tests.{ltb-true, ltb-false, eqb-true, eqb-false, le-ltb}
+use borrow.Author.Tests.{ltb-true, ltb-false, eqb-true, le-ltb}
 use Rattle.words.proofs.Truth.{and-both}
 use Rattle.words.specs.Words.{onClock}
 use Rattle.records.specs.Numbers.{numberAfter, numberOf, bytesOf}
 use Rattle.records.specs.Records.{inRange, recordAt, readOf, formOf, writeRefusal, writtenOf}
-use Rattle.records.specs.Theorems.{Bytes, Fits, ReadWritten, WriteRead, OnlyForm, ReadFits, OneForm, RefusedExactly}
+use Rattle.records.specs.Theorems.{Bytes, ReadWritten, WriteRead, OnlyForm, ReadFits, OneForm, RefusedExactly}
 use Rattle.records.specs.declared.forms.WordRecord.{WordRecord}
-use Rattle.records.specs.declared.forms.Read.{Read}
 use Rattle.records.specs.declared.forms.Read.the-variants.{Record, Refused}
 use Rattle.records.proofs.Digits.{number-lt, number-bytes, bytes-number}
 use Rattle.records.proofs.Cases.{short, bad-length, bad-field, good, written}

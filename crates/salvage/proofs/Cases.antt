@@ -8,15 +8,13 @@ use lib.ListN.{length, getD, take, drop, length-take}
 use lib.Seq.{take-all}
 use borrow.Author.Tests.{eq-eqb, ne-eqb}
 use Rattle.words.specs.declared.refusals.Refusal.{Refusal}
-use Rattle.words.specs.declared.times.Moment.{Moment}
 use Rattle.records.specs.Records.{readOf}
 use Rattle.records.specs.declared.forms.WordRecord.{WordRecord}
 use Rattle.records.specs.declared.forms.Read.{Read}
 use Rattle.records.specs.declared.forms.Read.the-variants.{Record, Refused}
 use Rattle.salvage.specs.Pieces.{inTime, chosen, choiceOf, afterFirst}
-use Rattle.salvage.specs.Machine.{sum, settledKept, settledSkipped, runEnded, gatheredOf, gatheredIn, firstOf, oneMore, begunOf, fedBy, fedOf, behindFirst, roomOf, isSettledOf, allBytes, totalsOf, endedOf}
+use Rattle.salvage.specs.Machine.{sum64, settledKept, settledSkipped, runEnded, gatheredOf, gatheredIn, firstOf, oneMore, begunOf, fedBy, fedOf, behindFirst, roomOf, isSettledOf, isChanged, sizeOf, totalsOf, endedOf}
 use Rattle.salvage.specs.declared.choices.Last.{Last}
-use Rattle.salvage.specs.declared.choices.Choice.{Choice}
 use Rattle.salvage.specs.declared.choices.Choice.the-variants.{Keeps, Skips}
 use Rattle.salvage.specs.declared.stretches.Stretch.{Stretch}
 use Rattle.salvage.specs.declared.salvages.First.{First}
@@ -26,7 +24,6 @@ use Rattle.salvage.specs.declared.salvages.Settled.{Settled}
 use Rattle.salvage.specs.declared.salvages.Salvage.{Salvage}
 use Rattle.salvage.specs.declared.salvages.Fed.{Fed}
 use Rattle.salvage.specs.declared.salvages.Totals.{Totals}
-use Rattle.salvage.specs.declared.salvages.Ended.{Ended}
 use Rattle.salvage.specs.declared.salvages.Ended.the-variants.{Whole, Early}
 
 -- ---- what becomes of the bytes at a place; g is what the code read
@@ -52,7 +49,7 @@ module _ (s : Settled) (stretch : Stretch) where
   settled-none h = rw (eq-eqb _ _ h)
 
   pub settled-some : {end place records : ℕ} → (stretch .bytes ≡ 0 → ⊥)
-      → end ≡ sum (s .run .place) (s .run .length) → place ≡ sum end (stretch .bytes) → records ≡ sum (s .records) (stretch .bytes / 16)
+      → end ≡ sum64 (s .run .place) (s .run .length) → place ≡ sum64 end (stretch .bytes) → records ≡ sum64 (s .records) (stretch .bytes / 16)
       → record { last = stretch .last; run = record { place = place; length = 0 }; records = records; skipped = s .skipped } ≡ settledKept s stretch
   unfolding settledKept
   settled-some h e p r = rw (ne-eqb _ _ h, p, e, r)
@@ -146,20 +143,32 @@ module _ (s : Salvage) (room room′ chunk : List ℕ) (fed : Fed) where
 
 -- ---- the end
 
-pub size-none : (first : First) (run : Run) → first ≡ Missing → 0 ≡ allBytes first run
-unfolding allBytes
-size-none first run h = sym (ap (λ (f : First). allBytes f run) h)
+pub changed-missing : (first : First) → first ≡ Missing → true ≡ isChanged first
+unfolding isChanged
+changed-missing first h = sym (ap isChanged h)
 
-module _ (first : First) (run : Run) (n : ℕ) (e : n ≡ sum (run .place) (run .length)) where
-  pub size-kept : first ≡ Kept → n ≡ allBytes first run
-  unfolding allBytes
-  size-kept h = e ∙ sym (ap (λ (f : First). allBytes f run) h)
+pub changed-kept : (first : First) → first ≡ Kept → false ≡ isChanged first
+unfolding isChanged
+changed-kept first h = sym (ap isChanged h)
 
-  pub size-changed : first ≡ Changed → n ≡ allBytes first run
-  unfolding allBytes
-  size-changed h = e ∙ sym (ap (λ (f : First). allBytes f run) h)
+pub changed-other : (first : First) → first ≡ Changed → true ≡ isChanged first
+unfolding isChanged
+changed-other first h = sym (ap isChanged h)
 
-pub totals : (s : Salvage) (after : Settled) (n bytes : ℕ) → n ≡ s .to - s .from → after ≡ settledSkipped (s .settled) n → bytes ≡ allBytes (s .first) (after .run)
+pub size-none : (first : First) (run : Run) → first ≡ Missing → 0 ≡ sizeOf first run
+unfolding sizeOf
+size-none first run h = sym (ap (λ (f : First). sizeOf f run) h)
+
+module _ (first : First) (run : Run) (n : ℕ) (e : n ≡ sum64 (run .place) (run .length)) where
+  pub size-kept : first ≡ Kept → n ≡ sizeOf first run
+  unfolding sizeOf
+  size-kept h = e ∙ sym (ap (λ (f : First). sizeOf f run) h)
+
+  pub size-changed : first ≡ Changed → n ≡ sizeOf first run
+  unfolding sizeOf
+  size-changed h = e ∙ sym (ap (λ (f : First). sizeOf f run) h)
+
+pub totals : (s : Salvage) (after : Settled) (n bytes : ℕ) → n ≡ s .to - s .from → after ≡ settledSkipped (s .settled) n → bytes ≡ sizeOf (s .first) (after .run)
     → record { first = s .first; run = after .run; records = after .records; skipped = after .skipped; bytes = bytes } ≡ totalsOf s
 unfolding totalsOf
 totals s after n bytes w a b = rw (b, a, w)

@@ -1,23 +1,18 @@
 -- What stands at the front of some bytes, and how the definitions go on behind it. Assumes nothing.
-use mathlib.Core.Path.{_≡_, refl, sym, ap, subst, _∙_}
-use mathlib.Core.Bool.{Bool, true, false, cond}
+use mathlib.Core.Path.{_≡_, refl, sym, ap, _∙_}
 use Prim.Native.Nat.{ℕ, zero, suc, _+_, _-_, _≤_, _<_}
 use native.Mathlib.Omega.{arith}
 use native.Mathlib.Nat.{lt-of-not-le}
 use native.Mathlib.Decide.{decLe}
 use mathlib.Core.Logic.{dite}
 use mathlib.Core.List.{List, [], _∷_, _++_}
-use lib.ListN.{length, take, drop, length-drop, drop-of-length-le}
-use lib.Seq.{drop-drop, drop-nil}
+use lib.ListN.{length, take, drop, length-drop}
 use borrow.Author.Tests.{lt-ltb, le-ltb}
 use Rattle.words.specs.declared.times.Moment.{Moment}
-use Rattle.records.specs.Records.{readOf}
-use Rattle.records.specs.declared.forms.Read.{Read}
-use Rattle.records.specs.declared.forms.Read.the-variants.{Record, Refused}
-use Rattle.records.proofs.Cases.{short, rest-read}
+use Rattle.records.proofs.Cases.{short}
 use Rattle.records.proofs.Theorems.{read-front}
-use Rattle.salvage.specs.Pieces.{inTime, chosen, choiceOf, Piece, kept, skipped, pieceAt, piecesFrom}
-use Rattle.salvage.specs.Machine.{longer, keptAt, keptFrom, skippedAt, skippedFrom}
+use Rattle.salvage.specs.Pieces.{chosen, choiceOf, Piece, kept, skipped, piecesFrom}
+use Rattle.salvage.specs.Machine.{longer, keptFrom, skippedFrom}
 use Rattle.salvage.specs.declared.choices.Last.{Last}
 use Rattle.salvage.specs.declared.choices.Last.the-variants.{At}
 use Rattle.salvage.specs.declared.choices.Choice.{Choice}

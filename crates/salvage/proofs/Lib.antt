@@ -3,4 +3,6 @@ pub mod Fronts
 pub mod Loops
 pub mod Shifts
 pub mod Tallies
-pub mod Courses
+pub mod Sessions
+pub mod Cleans
+pub mod Listings

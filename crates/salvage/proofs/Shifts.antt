@@ -1,5 +1,5 @@
 -- Bytes moved to the front of a room, and others put behind them. Assumes nothing.
-use mathlib.Core.Path.{_≡_, refl, sym, ap, ap₂, subst, _∙_}
+use mathlib.Core.Path.{_≡_, refl, sym, ap, ap₂, _∙_}
 use Prim.Native.Nat.{ℕ, zero, suc, _+_, _-_, _≤_, _<_, min}
 use native.Mathlib.Nat.{zero-add, lt-of-not-le}
 use native.Mathlib.Omega.{arith}
@@ -7,7 +7,7 @@ use native.Mathlib.Decide.{decLe}
 use mathlib.Core.Logic.{dite}
 use mathlib.Core.List.{List, [], _∷_, _++_, append-nil}
 use lib.ListN.{length, getD, set, take, drop, length-append, length-take, length-drop, drop-of-length-le}
-use lib.Seq.{paste, paste-zero, paste-suc, length-paste, length-take-le, take-all, take-nil, take-length, take-at, drop-at, drop-drop, getD-drop, getD-append-add, drop-append-add}
+use lib.Seq.{paste, paste-zero, paste-suc, length-paste, length-take-le, take-all, take-nil, take-length, take-at, drop-drop, getD-drop, getD-append-add, drop-append-add}
 use borrow.Rule.Slice.PartMut.{putMid}
 use Rattle.salvage.specs.Machine.{keptFrom, skippedFrom, settledKept, settledSkipped, runEnded, waitingIn, takenOf, gatheredOf, gatheredIn, stretchOf, askedOf}
 use Rattle.salvage.specs.declared.stretches.Stretch.{Stretch}

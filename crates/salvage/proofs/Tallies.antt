@@ -2,7 +2,7 @@
 use mathlib.Core.Path.{_≡_, refl, sym, ap, ap₂, subst, _∙_}
 use mathlib.Core.Bool.{cond}
 use Prim.Native.Nat.{ℕ, zero, suc, _+_, _-_, _/_, _≤_, _<_}
-use native.Mathlib.Nat.{add-zero, zero-add, lt-of-not-le}
+use native.Mathlib.Nat.{add-zero, lt-of-not-le}
 use native.Mathlib.Omega.{arith}
 use native.Mathlib.Decide.{decLe}
 use mathlib.Core.Logic.{dite}
@@ -11,12 +11,11 @@ use lib.Dec.{eqb}
 use lib.ListN.{length, take, drop, length-drop}
 use lib.Seq.{take-append-le, drop-append-le, take-add, drop-drop}
 use borrow.Author.Tests.{eq-eqb, ne-eqb}
-use Rattle.words.specs.declared.times.Moment.{Moment}
 use Rattle.salvage.specs.Pieces.{choiceOf, Piece, kept, skipped, piecesFrom, keptBytes, listed, runsFrom, recordsIn, skippedIn}
 use Rattle.salvage.specs.Machine.{keptFrom, skippedFrom}
 use Rattle.salvage.specs.declared.choices.Last.{Last}
 use Rattle.salvage.specs.declared.choices.Last.the-variants.{At}
-use Rattle.salvage.specs.declared.choices.Choice.the-variants.{Keeps, Skips}
+use Rattle.salvage.specs.declared.choices.Choice.the-variants.{Skips}
 use Rattle.salvage.specs.declared.stretches.Stretch.{Stretch}
 use Rattle.salvage.specs.declared.salvages.Run.{Run}
 use Rattle.salvage.proofs.Fronts.{choice-short, choice-long, choice-front, by-choice, pieces-keep, pieces-skip, kept-keep, kept-skip, skipped-short, skipped-kept, skipped-one}
@@ -126,13 +125,13 @@ kept-on t s n =
     (λ none.
     with-none (step t (kept (take 16 s))) (take n (drop 16 s)) n (omega arith)
     ∙ tally-same (step t (kept (take 16 s))) (withRecords t (take (16 + n) s) (16 + n))
-      (ap (λ (k : ℕ). t .clean ++ take k s) {x = 16} {y = 16 + n} (omega arith)) refl (omega arith) refl (omega arith) refl
+    (ap (λ (k : ℕ). t .clean ++ take k s) {x = 16} {y = 16 + n} (omega arith)) refl (omega arith) refl (omega arith) refl
     ∙ sym whole)
     (λ some.
     with-some (step t (kept (take 16 s))) (take n (drop 16 s)) n (λ h. some (omega arith))
     ∙ tally-same (withRecords (step t (kept (take 16 s))) (take n (drop 16 s)) n) (withRecords t (take (16 + n) s) (16 + n))
-      (append-assoc (t .clean) (take 16 s) (take n (drop 16 s)) ∙ ap (λ (k : List ℕ). t .clean ++ k) bytes)
-      (append-nil (t .runs ++ listed (t .place) (t .before))) (omega arith) refl (omega arith) refl
+    (append-assoc (t .clean) (take 16 s) (take n (drop 16 s)) ∙ ap (λ (k : List ℕ). t .clean ++ k) bytes)
+    (append-nil (t .runs ++ listed (t .place) (t .before))) (omega arith) refl (omega arith) refl
     ∙ sym whole)
 
 -- what a tally comes to with a stretch, of bytes that others follow
@@ -154,8 +153,8 @@ tell-kept-by (suc fuel) t last s after l =
     let rest = keptFrom 0 (At m) (drop 16 s) in
     let u = step t (kept (take 16 s)) in
     let first : tell t (piecesFrom 0 last (s ++ after)) ≡ tell u (piecesFrom 0 (At m) (drop 16 s ++ after)) =
-      ap (tell t) (pieces-keep last (s ++ after) m (choice-front last s after long ∙ q))
-      ∙ ap₂ (λ (front more : List ℕ). tell (step t (kept front)) (piecesFrom 0 (At m) more)) (take-append-le 16 s after long) (drop-append-le 16 s after long) in
+    ap (tell t) (pieces-keep last (s ++ after) m (choice-front last s after long ∙ q))
+    ∙ ap₂ (λ (front more : List ℕ). tell (step t (kept front)) (piecesFrom 0 (At m) more)) (take-append-le 16 s after long) (drop-append-le 16 s after long) in
     subst (Kept t last s after) (sym (kept-keep last s m q))
     (first
     ∙ tell-kept-by fuel u (At m) (drop 16 s) after (omega (arith, length-drop 16 s))

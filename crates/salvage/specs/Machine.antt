@@ -1,7 +1,7 @@
 -- The machine that is fed a damaged file chunk by chunk (02 c): what each of its calls gives. That together they give what Pieces.antt says of the
 -- whole file, whatever the chunks, is `chunks-do-not-matter`. Assumes nothing.
 use Prim.Native.Nat.{ℕ, zero, suc, _+_, _-_, _/_, _%_, _^_, min}
-use mathlib.Core.Bool.{Bool, cond}
+use mathlib.Core.Bool.{Bool, true, false, cond}
 use mathlib.Core.List.{List, [], _∷_, _++_}
 use lib.Dec.{ltb, eqb}
 use lib.ListN.{length, take, drop}
@@ -25,8 +25,8 @@ use Rattle.salvage.specs.declared.salvages.Ended.{Ended}
 use Rattle.salvage.specs.declared.salvages.Ended.the-variants.{Whole, Early}
 
 -- A sum as the machine counts, in 64 bits: exact for every file of fewer than 2^64 bytes.
-abbrev pub sum : ℕ → ℕ → ℕ
-sum a b = (a + b) % 2 ^ 64
+abbrev pub sum64 : ℕ → ℕ → ℕ
+sum64 a b = (a + b) % 2 ^ 64
 
 -- ---- stretches at the front of some bytes
 
@@ -61,20 +61,20 @@ settledKept s stretch =
     cond (eqb (stretch .bytes) 0) s
     (record {
       last = stretch .last;
-      run = record { place = sum (sum (s .run .place) (s .run .length)) (stretch .bytes); length = 0 };
-      records = sum (s .records) (stretch .bytes / recordBytes);
+      run = record { place = sum64 (sum64 (s .run .place) (s .run .length)) (stretch .bytes); length = 0 };
+      records = sum64 (s .records) (stretch .bytes / recordBytes);
       skipped = s .skipped;
     })
 
 abbrev pub settledSkipped : Settled → ℕ → Settled
 settledSkipped s bytes = record {
   last = s .last;
-  run = record { place = s .run .place; length = sum (s .run .length) bytes };
+  run = record { place = s .run .place; length = sum64 (s .run .length) bytes };
   records = s .records;
-  skipped = sum (s .skipped) bytes;
+  skipped = sum64 (s .skipped) bytes;
 }
 
--- The run that a stretch of records ends, of length 0 where none does.
+-- The run that a stretch of records ends. Where its length is 0 there is none, and its place says nothing.
 unfoldable pub runEnded : Settled → Stretch → Run
 runEnded s stretch = cond (eqb (stretch .bytes) 0) (record { place = 0; length = 0 }) (s .run)
 
@@ -162,16 +162,23 @@ askedOf s room = record {
 unfoldable pub isSettledOf : Salvage → Bool
 isSettledOf s = ltb (s .to - s .from) recordBytes
 
-unfoldable pub allBytes : First → Run → ℕ
-allBytes Missing run = 0
-allBytes Kept run = sum (run .place) (run .length)
-allBytes Changed run = sum (run .place) (run .length)
+-- Whether the first byte is listed as changed: "An empty file gives .., with the first byte listed as changed."
+unfoldable pub isChanged : First → Bool
+isChanged Missing = true
+isChanged Kept = false
+isChanged Changed = true
+
+-- The size of a file, from the run that stands at its end.
+unfoldable pub sizeOf : First → Run → ℕ
+sizeOf Missing run = 0
+sizeOf Kept run = sum64 (run .place) (run .length)
+sizeOf Changed run = sum64 (run .place) (run .length)
 
 -- The bytes that wait are skipped: fewer than 16 are no record.
 unfoldable pub totalsOf : Salvage → Totals
 totalsOf s =
     let after = settledSkipped (s .settled) (s .to - s .from) in
-    record { first = s .first; run = after .run; records = after .records; skipped = after .skipped; bytes = allBytes (s .first) (after .run) }
+    record { first = s .first; run = after .run; records = after .records; skipped = after .skipped; bytes = sizeOf (s .first) (after .run) }
 
 unfoldable pub endedOf : Salvage → Ended
 endedOf s = cond (isSettledOf s) (Whole (totalsOf s)) Early

@@ -1,22 +1,34 @@
 -- What is proved of saving a damaged file (02 c). Each is proved in proofs/ under the name at its side. Assumes nothing.
-use Prim.Native.Nat.{ℕ, _+_, _-_, _^_, _≤_, _<_}
+use Prim.Native.Nat.{ℕ, _+_, _-_, _*_, _^_, _≤_, _<_}
 use mathlib.Core.Path.{_≡_}
 use mathlib.Core.Bool.{Bool, true, false}
 use mathlib.Core.List.{List, [], _∷_, _++_}
-use lib.ListN.{length, take, drop}
-use Rattle.records.specs.Records.{recordAt}
+use lib.ListN.{length, take, drop, replicate}
+use Rattle.words.specs.declared.times.Moment.{Moment}
+use Rattle.records.specs.Records.{recordBytes, recordAt, readOf}
 use Rattle.records.specs.Files.{version, whole, walkOf}
 use Rattle.records.specs.declared.forms.WordRecord.{WordRecord}
-use Rattle.salvage.specs.Pieces.{inTime, Piece, kept, skipped, piecesOf, afterFirst, cleanOf, listed, runsOf, changedOf, recordsIn, skippedIn}
-use Rattle.salvage.specs.Machine.{startOf, fedOf, roomOf, askedOf, isSettledOf, endedOf}
+use Rattle.records.specs.declared.forms.Read.the-variants.{Record}
+use Rattle.salvage.specs.Pieces.{inTime, choiceOf, Piece, kept, skipped, piecesFrom, piecesOf, afterFirst, cleanOf, listed, runsOf, changedOf, recordsIn, skippedIn}
+use Rattle.salvage.specs.Machine.{startOf, fedOf, roomOf, askedOf, isSettledOf, isChanged, endedOf}
 use Rattle.salvage.specs.declared.choices.Last.{Last}
 use Rattle.salvage.specs.declared.choices.Last.the-variants.{Nothing, At}
-use Rattle.salvage.specs.declared.salvages.First.{First}
-use Rattle.salvage.specs.declared.salvages.First.the-variants.{Missing, Kept, Changed}
+use Rattle.salvage.specs.declared.choices.Choice.the-variants.{Keeps, Skips}
 use Rattle.salvage.specs.declared.salvages.Run.{Run}
 use Rattle.salvage.specs.declared.salvages.Salvage.{Salvage}
 use Rattle.salvage.specs.declared.salvages.Totals.{Totals}
 use Rattle.salvage.specs.declared.salvages.Ended.the-variants.{Whole}
+
+-- ---- the walk
+
+-- At each place the bytes from there on decide. Where 16 read as a record in time they are kept, and the walk goes on behind them; else one is
+-- skipped: each-place
+pub record EachPlace : Type 0 where
+  pub every : (last : Last) (bytes : List ℕ) (r : WordRecord) → readOf bytes ≡ Record r → inTime last (r .time .0) ≡ true → choiceOf last bytes ≡ Keeps (r .time)
+  pub keeps : (last : Last) (bytes : List ℕ) (time : Moment) → choiceOf last bytes ≡ Keeps time
+      → piecesFrom 0 last bytes ≡ kept (take recordBytes bytes) ∷ piecesFrom 0 (At time) (drop recordBytes bytes)
+  pub skips : (last : Last) (byte : ℕ) (rest : List ℕ) → choiceOf last (byte ∷ rest) ≡ Skips → piecesFrom 0 last (byte ∷ rest) ≡ skipped byte ∷ piecesFrom 0 last rest
+  pub ends : (last : Last) → piecesFrom 0 last [] ≡ []
 
 -- ---- the clean file
 
@@ -61,17 +73,30 @@ joined [] = []
 joined (kept bytes ∷ pieces) = bytes ++ joined pieces
 joined (skipped byte ∷ pieces) = byte ∷ joined pieces
 
--- Bytes from a place on, without those of the runs.
-abbrev pub without : ℕ → List Run → List ℕ → List ℕ
-without place [] bytes = bytes
-without place (run ∷ runs) bytes =
-    take (run .place - place) bytes ++ without (run .place + run .length) runs (drop (run .place + run .length - place) bytes)
+-- Whether each byte is skipped, by the pieces.
+abbrev pub flags : List Piece → List Bool
+flags [] = []
+flags (kept bytes ∷ pieces) = replicate recordBytes false ++ flags pieces
+flags (skipped byte ∷ pieces) = true ∷ flags pieces
 
--- Each byte after the first is in one piece, in order; and the runs that are listed are the skipped bytes: what they leave is the clean file:
+-- Whether each of `count` bytes from a place on is in a run, by the list of runs.
+abbrev pub marks : ℕ → List Run → ℕ → List Bool
+marks place [] count = replicate count false
+marks place (run ∷ runs) count =
+    replicate (run .place - place) false
+    ++ (replicate (run .length) true ++ marks (run .place + run .length) runs (count - (run .place + run .length - place)))
+
+abbrev pub inRuns : List Run → ℕ
+inRuns [] = 0
+inRuns (run ∷ runs) = run .length + inRuns runs
+
+-- Each byte after the first is in one piece, in order; the runs that are listed are the skipped bytes, place by place; and the numbers add up:
 -- all-bytes
 pub record Together (file : List ℕ) : Type 0 where
   pub every-byte : joined (piecesOf file) ≡ afterFirst file
-  pub as-listed : version ∷ without 1 (runsOf file) (afterFirst file) ≡ cleanOf file
+  pub as-listed : marks 1 (runsOf file) (length (afterFirst file)) ≡ flags (piecesOf file)
+  pub adds-up : recordBytes * recordsIn (piecesOf file) + skippedIn (piecesOf file) ≡ length (afterFirst file)
+  pub runs-add-up : inRuns (runsOf file) ≡ skippedIn (piecesOf file)
 
 abbrev pub AllBytes : Type 0
 AllBytes = (file : List ℕ) → Together file
@@ -92,17 +117,17 @@ pub data Call : Type 0 where
   asks : Call
 
 -- What came of it: the machine and its room; the bytes that it took; and what it gave, the bytes to keep and the runs.
-pub record Course : Type 0 where
+pub record Session : Type 0 where
   pub salvage : Salvage
   pub room : List ℕ
   pub taken : List ℕ
   pub clean : List ℕ
   pub runs : List Run
 
-abbrev pub begun : List ℕ → Course
+abbrev pub begun : List ℕ → Session
 begun room = record { salvage = startOf; room = room; taken = []; clean = []; runs = [] }
 
-abbrev pub afterCall : Course → Call → Course
+abbrev pub afterCall : Session → Call → Session
 afterCall c (feeds chunk) =
     let fed = fedOf (c .salvage) (c .room) chunk in
     record {
@@ -122,17 +147,12 @@ afterCall c asks =
       runs = c .runs ++ listed (asked .run .place) (asked .run .length);
     }
 
-abbrev pub after : Course → List Call → Course
+abbrev pub after : Session → List Call → Session
 after c [] = c
 after c (call ∷ calls) = after (afterCall c call) calls
 
-abbrev pub isChanged : First → Bool
-isChanged Missing = true
-isChanged Kept = false
-isChanged Changed = true
-
 -- All of it is what the definition says of the bytes that were taken.
-pub record Exact (c : Course) (t : Totals) : Type 0 where
+pub record Exact (c : Session) (t : Totals) : Type 0 where
   pub clean : version ∷ c .clean ≡ cleanOf (c .taken)
   pub runs : c .runs ++ listed (t .run .place) (t .run .length) ≡ runsOf (c .taken)
   pub first : isChanged (t .first) ≡ changedOf (c .taken)
@@ -140,20 +160,29 @@ pub record Exact (c : Course) (t : Totals) : Type 0 where
   pub skipped : t .skipped ≡ skippedIn (piecesOf (c .taken))
   pub bytes : t .bytes ≡ length (c .taken)
 
--- In whatever chunks a file is fed, into a room of any size, and whenever the machine is asked: where it says that it is at the end, it has given
--- exactly the definition's result (for fewer than 2^64 bytes): chunks-do-not-matter
+-- In whatever chunks bytes are fed, into a room of any size, and whenever the machine is asked: where an end is not too early, it has given exactly
+-- the definition's result for the bytes that it took (fewer than 2^64): chunks-do-not-matter
 abbrev pub ChunksDoNotMatter : Type 0
 ChunksDoNotMatter =
     (room : List ℕ) (calls : List Call) (t : Totals) → length (after (begun room) calls .taken) < 2 ^ 64
     → endedOf (after (begun room) calls .salvage) ≡ Whole t → Exact (after (begun room) calls) t
 
--- And it gets there: asked while 16 bytes or more wait, it leaves fewer; with a room of 16 bytes or more and fewer than 16 that wait, it takes at
--- least one more: goes-on
-pub record GoesOn (c : Course) : Type 0 where
+-- Asked while 16 bytes or more wait, it leaves fewer; with a room of 16 bytes or more and fewer than 16 that wait, it takes at least one more:
+-- goes-on
+pub record Advances (c : Session) : Type 0 where
   pub asked : isSettledOf (c .salvage) ≡ false
       → askedOf (c .salvage) (c .room) .salvage .to - askedOf (c .salvage) (c .room) .salvage .from < c .salvage .to - c .salvage .from
   pub fed : (chunk : List ℕ) → isSettledOf (c .salvage) ≡ true → 16 ≤ length (c .room) → 0 < length chunk
       → 0 < fedOf (c .salvage) (c .room) chunk .taken
 
-abbrev pub AlwaysGoesOn : Type 0
-AlwaysGoesOn = (room : List ℕ) (calls : List Call) → GoesOn (after (begun room) calls)
+abbrev pub GoesOn : Type 0
+GoesOn = (room : List ℕ) (calls : List Call) → Advances (after (begun room) calls)
+
+-- So every file can be taken whole, however long it is, through any room of 16 bytes or more: gets-there
+pub record TakenWhole (room file : List ℕ) : Type 0 where
+  pub calls : List Call
+  pub all : after (begun room) calls .taken ≡ file
+  pub settled : isSettledOf (after (begun room) calls .salvage) ≡ true
+
+abbrev pub GetsThere : Type 0
+GetsThere = (room file : List ℕ) → 16 ≤ length room → TakenWhole room file

@@ -1,9 +1,9 @@
 // The machine: fed any chunk, asked for what is settled, ended (02 c). Meaning: specs/Machine.antt. Refusals: none.
 ghost use mathlib.Core.Path.{_≡_};
 ghost use Prim.Native.Nat.{_-_};
-ghost use Rattle.salvage.specs.Machine.{settledKept, settledSkipped, runEnded, firstOf, allBytes, gatheredOf, gatheredIn, begunOf};
+ghost use Rattle.salvage.specs.Machine.{settledKept, settledSkipped, runEnded, firstOf, sizeOf, gatheredOf, gatheredIn, begunOf};
 ghost use Rattle.salvage.specs.Pieces.{afterFirst};
-ghost use Rattle.salvage.specs.Machine.{startOf, fedOf, roomOf, askedOf, isSettledOf, totalsOf, endedOf};
+ghost use Rattle.salvage.specs.Machine.{startOf, fedOf, roomOf, askedOf, isSettledOf, isChanged, totalsOf, endedOf};
 use crate::choices::Last;
 use crate::rooms::fill;
 use crate::rooms::least;
@@ -22,7 +22,22 @@ pub enum First {
     Changed,
 }
 
-// Skipped bytes that stand together: the place of the first, counted from 0 in the damaged file, and how many they are.
+impl First {
+    // Says whether the first byte is listed as changed.
+    // Tables: none. Refusals: none.
+    pub fn is_changed(self) -> bool
+        ensures answer { λ r. ⌜ r ≡ isChanged self ⌝ }
+    {
+        match self {
+            First::Missing => true,
+            First::Kept => false,
+            First::Changed => true,
+        }
+    }
+}
+
+// Skipped bytes that stand together: the place of the first, counted from 0 in the damaged file, and how many they are. A length of 0 is
+// no run, and its place says nothing.
 pub struct Run {
     pub place: u64,
     pub length: u64,
@@ -37,7 +52,8 @@ pub struct Settled {
     pub skipped: u64,
 }
 
-// The machine. The bytes that wait stand in the caller's room, from one place up to another.
+// The machine. The bytes that wait stand in the caller's room, from one place up to another: it is lent the same room each time, of 16 bytes
+// or more, and nobody else writes there.
 pub struct Salvage {
     pub first: First,
     pub settled: Settled,
@@ -52,7 +68,7 @@ pub struct Fed {
 }
 
 // The machine after a question; the run that has ended, of length 0 where none has; and where in the room the bytes to keep stand, and how
-// many: they come behind the run.
+// many: they come behind the run. They stand there until the next feed.
 pub struct Progress {
     pub salvage: Salvage,
     pub run: Run,
@@ -60,7 +76,7 @@ pub struct Progress {
     pub kept: usize,
 }
 
-// What the whole file came to: its first byte, the run at its end (length 0: none), records kept, bytes skipped, and all its bytes.
+// What the bytes that were taken came to as a file: its first byte, the run at its end (length 0: none), records kept, bytes skipped, its size.
 pub struct Totals {
     pub first: First,
     pub run: Run,
@@ -69,7 +85,7 @@ pub struct Totals {
     pub bytes: u64,
 }
 
-// What an end gives; it is too early while 16 bytes or more wait.
+// What an end gives; it is too early while 16 bytes or more wait. Whether more of the file would come the caller alone knows.
 pub enum Ended {
     Whole(Totals),
     Early,
@@ -83,14 +99,14 @@ impl Settled {
         if stretch.bytes == 0 {
             return self;
         }
-        let bytes = stretch.bytes as u64;
+        let records = stretch.bytes / RECORD_BYTES;
         let last = stretch.last;
         let end = wrapping_add_u64(self.run.place, self.run.length);
-        let place = wrapping_add_u64(end, bytes);
+        let place = wrapping_add_u64(end, stretch.bytes as u64);
         Settled {
             last,
             run: Run { place, length: 0 },
-            records: wrapping_add_u64(self.records, bytes / 16),
+            records: wrapping_add_u64(self.records, records as u64),
             skipped: self.skipped,
         }
     }
@@ -137,8 +153,8 @@ fn judge_first(byte: u8) -> First
 }
 
 // Gives the size of the file at whose end the run stands.
-fn all_bytes(first: First, run: Run) -> u64
-    ensures bytes { λ r. ⌜ r ≡ allBytes first run ⌝ }
+fn file_size(first: First, run: Run) -> u64
+    ensures bytes { λ r. ⌜ r ≡ sizeOf first run ⌝ }
 {
     let size = wrapping_add_u64(run.place, run.length);
     match first {
@@ -219,7 +235,8 @@ impl Salvage {
         }
     }
 
-    // Feeds the next bytes of the file, and gives how many of them were taken: all that the room holds. The others are fed again after `ask`.
+    // Feeds the next bytes of the file, and gives how many of them were taken: all that the room holds. The others are fed again once
+    // `ask` has settled what waits.
     // Tables: room holds the bytes that wait, old and new, at its front, and is else as before; chunk is only read. Refusals: none.
     pub fn feed(self, room: &mut [u8], chunk: &[u8]) -> Fed
         ensures fed { λ r. ⌜ r ≡ fedOf self (now (room .entry)) (now (chunk .entry)) ⌝ }
@@ -233,7 +250,8 @@ impl Salvage {
         }
     }
 
-    // Settles the next bytes that wait: a stretch of records to keep, then bytes to skip. It goes on as long as 16 bytes or more wait.
+    // Settles the next bytes that wait: a stretch of records to keep, then bytes to skip. It is asked until `is_settled`. The version byte is
+    // no part of what it gives.
     // Tables: room is only read. Refusals: none.
     pub fn ask(self, room: &[u8]) -> Progress
         ensures progress { λ r. ⌜ r ≡ askedOf self (now (room .entry)) ⌝ }
@@ -282,7 +300,7 @@ impl Salvage {
             run,
             records: after.records,
             skipped: after.skipped,
-            bytes: all_bytes(first, run),
+            bytes: file_size(first, run),
         }
     }
 

@@ -10,11 +10,11 @@ waiting-requires c κs = search needs
 skip-requires : tie.Need-skip-requires
 skip-requires c κs = search needs
 
-all-bytes-requires : tie.Need-all-bytes-requires
-all-bytes-requires c κs = search needs
+file-size-requires : tie.Need-file-size-requires
+file-size-requires c κs = search needs
 
 returns : tie.Need-returns
 returns c = search (totals, needs)
 
 pub total-spec : {M : Type 1} → statement M
-total-spec = tie.close (tie.spec waiting-requires skip-requires all-bytes-requires returns)
+total-spec = tie.close (tie.spec waiting-requires skip-requires file-size-requires returns)

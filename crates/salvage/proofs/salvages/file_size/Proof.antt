@@ -1,8 +1,8 @@
 -- One law for each way out. Assumes nothing.
 use Rattle.salvage.proofs.Cases.{size-none, size-kept, size-changed}
 use borrow.Author.Needs.{needs}
-use Rattle.salvage.proofs.salvages.all_bytes.Statement.{statement}
-use Rattle.salvage.proofs.salvages.all_bytes.Tie as tie
+use Rattle.salvage.proofs.salvages.file_size.Statement.{statement}
+use Rattle.salvage.proofs.salvages.file_size.Tie as tie
 
 wrapping-add-u64-requires : tie.Need-wrapping-add-u64-requires
 wrapping-add-u64-requires c κs = search needs
@@ -25,8 +25,8 @@ returns-2 c = search (size-kept, needs)
 returns-3 : tie.Need-returns-3
 returns-3 c = search (size-changed, needs)
 
-pub all-bytes-spec : {M : Type 1} → statement M
-all-bytes-spec =
+pub file-size-spec : {M : Type 1} → statement M
+file-size-spec =
     tie.close
     (tie.spec
     wrapping-add-u64-requires

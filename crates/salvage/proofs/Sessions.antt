@@ -1,22 +1,21 @@
 -- Whatever the calls, what the machine has given and what still waits make up the definition's result. Assumes nothing.
 use mathlib.Core.Path.{_≡_, refl, sym, ap, ap₂, subst, _∙_}
 use mathlib.Core.Bool.{Bool, true, false, cond}
-use Prim.Native.Nat.{ℕ, zero, suc, _+_, _-_, _/_, _%_, _^_, _≤_, _<_, min}
-use native.Mathlib.Nat.{add-zero, zero-add, lt-of-not-le}
+use Prim.Native.Nat.{ℕ, zero, suc, _+_, _-_, _/_, _^_, _≤_, _<_}
+use native.Mathlib.Nat.{zero-add}
 use native.Mathlib.Omega.{arith}
 use native.Mathlib.Decide.{decLe}
 use mathlib.Core.Logic.{dite}
 use mathlib.Core.List.{List, [], _∷_, _++_, append-assoc, append-nil}
 use lib.Dec.{eqb, ltb}
-use lib.ListN.{length, take, drop, length-append, length-take, length-drop}
+use lib.ListN.{length, take, drop, length-append, length-take, length-drop, take-append-drop}
 use lib.Seq.{length-take-le, take-nil, take-append-add, take-append-seam, drop-drop, take-take}
-use borrow.Author.Tests.{eq-eqb, ne-eqb, ltb-true, ltb-false}
-use Rattle.salvage.specs.Pieces.{choiceOf, Piece, piecesFrom, piecesOf, afterFirst, keptBytes, cleanOf, listed, runsFrom, runsOf, changedOf, recordsIn, skippedIn}
-use Rattle.salvage.specs.Machine.{sum, keptFrom, skippedFrom, settledKept, settledSkipped, runEnded, startOf, waitingIn, takenOf, gatheredOf, gatheredIn, firstOf, oneMore, begunOf, fedBy, fedOf, behindFirst, roomOf, stretchOf, skippedOf, askedOf, isSettledOf, allBytes, totalsOf, endedOf}
-use Rattle.salvage.specs.Theorems.{Call, feeds, asks, Course, begun, afterCall, after, isChanged, Exact, ChunksDoNotMatter, GoesOn, AlwaysGoesOn}
+use borrow.Author.Tests.{ltb-true, ltb-false}
+use Rattle.salvage.specs.Pieces.{piecesFrom, piecesOf, afterFirst, cleanOf, listed, runsOf, changedOf, recordsIn, skippedIn}
+use Rattle.salvage.specs.Machine.{sum64, keptFrom, skippedFrom, settledKept, settledSkipped, runEnded, waitingIn, takenOf, gatheredOf, gatheredIn, firstOf, begunOf, fedBy, fedOf, behindFirst, roomOf, stretchOf, skippedOf, askedOf, isSettledOf, isChanged, sizeOf, totalsOf, endedOf}
+use Rattle.salvage.specs.Theorems.{Call, feeds, asks, Session, begun, afterCall, after, Exact, ChunksDoNotMatter, GoesOn, GetsThere}
 use Rattle.salvage.specs.declared.choices.Last.{Last}
 use Rattle.salvage.specs.declared.choices.Last.the-variants.{Nothing}
-use Rattle.salvage.specs.declared.choices.Choice.the-variants.{Skips}
 use Rattle.salvage.specs.declared.stretches.Stretch.{Stretch}
 use Rattle.salvage.specs.declared.salvages.First.{First}
 use Rattle.salvage.specs.declared.salvages.First.the-variants.{Missing, Kept, Changed}
@@ -25,10 +24,9 @@ use Rattle.salvage.specs.declared.salvages.Settled.{Settled}
 use Rattle.salvage.specs.declared.salvages.Salvage.{Salvage}
 use Rattle.salvage.specs.declared.salvages.Fed.{Fed}
 use Rattle.salvage.specs.declared.salvages.Totals.{Totals}
-use Rattle.salvage.specs.declared.salvages.Ended.{Ended}
 use Rattle.salvage.specs.declared.salvages.Ended.the-variants.{Whole, Early}
 use Rattle.salvage.proofs.Cases.{settled-none, settled-some, run-none, run-some}
-use Rattle.salvage.proofs.Fronts.{choice-long, by-choice, kept-keep, kept-skip, kept-within, skipped-one, skipped-within}
+use Rattle.salvage.proofs.Fronts.{by-choice, kept-keep, kept-skip, kept-within, skipped-one, skipped-within}
 use Rattle.salvage.proofs.Shifts.{drop-take}
 use Rattle.salvage.proofs.Tallies.{Tally, tally-same, tell, tell-clean, tell-runs, tell-records, tell-skipped, withSkipped, withRecords, withKept, with-none, with-some, tell-kept, tell-skips, tell-rest}
 
@@ -51,9 +49,9 @@ record Going (s : Settled) (waiting rest clean : List ℕ) (runs : List Run) : T
 going-fed : (s : Settled) (waiting rest clean : List ℕ) (runs : List Run) (more : List ℕ) → Going s waiting rest clean runs → Going s (waiting ++ more) (rest ++ more) clean runs
 going-fed s waiting rest clean runs more going = record {
   told = λ future.
-    ap (λ (k : List ℕ). tell startTally (piecesFrom 0 Nothing k)) (append-assoc rest more future)
-    ∙ going .told (more ++ future)
-    ∙ ap (λ (k : List ℕ). tell (tallied s clean runs) (piecesFrom 0 (s .last) k)) (sym (append-assoc waiting more future));
+      ap (λ (k : List ℕ). tell startTally (piecesFrom 0 Nothing k)) (append-assoc rest more future)
+      ∙ going .told (more ++ future)
+      ∙ ap (λ (k : List ℕ). tell (tallied s clean runs) (piecesFrom 0 (s .last) k)) (sym (append-assoc waiting more future));
   places = omega (arith, going .places, length-append waiting more, length-append rest more);
   few-records = going .few-records;
   few-skipped = going .few-skipped;
@@ -71,11 +69,11 @@ record Asked (s : Settled) (waiting rest clean : List ℕ) (runs : List Run) (k 
   last-same : s′ .last ≡ k .last
   tally-same : withSkipped (withKept (tallied s clean runs) (take (k .bytes) waiting) (k .bytes)) n
       ≡ tallied (settledSkipped s′ n) (clean ++ take (k .bytes) waiting) (runs ++ listed (ended .place) (ended .length))
-  places : s′ .run .place + sum (s′ .run .length) n + (length waiting - (k .bytes + n)) ≡ 1 + length rest
+  places : s′ .run .place + sum64 (s′ .run .length) n + (length waiting - (k .bytes + n)) ≡ 1 + length rest
   few-records : s′ .records ≤ s′ .run .place
-  few-skipped : sum (s′ .skipped) n ≤ s′ .run .place + sum (s′ .run .length) n
+  few-skipped : sum64 (s′ .skipped) n ≤ s′ .run .place + sum64 (s′ .run .length) n
 
-sum-small : (a b : ℕ) → a + b < 2 ^ 64 → sum a b ≡ a + b
+sum-small : (a b : ℕ) → a + b < 2 ^ 64 → sum64 a b ≡ a + b
 sum-small a b l = omega arith
 
 sixteenth : (r p l b x y : ℕ) → r ≤ p → x ≡ r + b / 16 → y ≡ p + l + b → x ≤ y
@@ -90,8 +88,8 @@ module _ (s : Settled) (waiting rest clean : List ℕ) (runs : List Run) (k : St
       record {
         last-same = sym e;
         tally-same =
-          ap (λ (t : Tally). withSkipped t n) (with-none (tallied s clean runs) (take (k .bytes) waiting) (k .bytes) h)
-          ∙ tally-same (withSkipped (tallied s clean runs) n) (tallied (settledSkipped s n) (clean ++ take (k .bytes) waiting) (runs ++ []))
+            ap (λ (t : Tally). withSkipped t n) (with-none (tallied s clean runs) (take (k .bytes) waiting) (k .bytes) h)
+            ∙ tally-same (withSkipped (tallied s clean runs) n) (tallied (settledSkipped s n) (clean ++ take (k .bytes) waiting) (runs ++ []))
             (sym (append-nil clean) ∙ ap (λ (j : ℕ). clean ++ take j waiting) (sym h)) (sym (append-nil runs)) refl (sym length-is) refl (sym skipped-is);
         places = omega (arith, going .places, length-is);
         few-records = going .few-records;
@@ -100,31 +98,31 @@ module _ (s : Settled) (waiting rest clean : List ℕ) (runs : List Run) (k : St
 
   asked-some : (k .bytes ≡ 0 → ⊥)
       → Asked s waiting rest clean runs k n
-        (record {
-          last = k .last;
-          run = record { place = sum (sum (s .run .place) (s .run .length)) (k .bytes); length = 0 };
-          records = sum (s .records) (k .bytes / 16);
-          skipped = s .skipped;
-        })
-        (s .run)
+      (record {
+        last = k .last;
+        run = record { place = sum64 (sum64 (s .run .place) (s .run .length)) (k .bytes); length = 0 };
+        records = sum64 (s .records) (k .bytes / 16);
+        skipped = s .skipped;
+      })
+      (s .run)
   asked-some h =
       let end-is = sum-small (s .run .place) (s .run .length) (omega (arith, going .places)) in
-      let place-is = sum-small (sum (s .run .place) (s .run .length)) (k .bytes) (omega (arith, going .places, end-is)) in
-      let place-all : sum (sum (s .run .place) (s .run .length)) (k .bytes) ≡ s .run .place + s .run .length + k .bytes = omega (arith, place-is, end-is) in
+      let place-is = sum-small (sum64 (s .run .place) (s .run .length)) (k .bytes) (omega (arith, going .places, end-is)) in
+      let place-all : sum64 (sum64 (s .run .place) (s .run .length)) (k .bytes) ≡ s .run .place + s .run .length + k .bytes = omega (arith, place-is, end-is) in
       let records-is = sum-small (s .records) (k .bytes / 16) (omega (arith, going .places, going .few-records)) in
       let length-is = sum-small 0 n (omega (arith, going .places)) in
       let skipped-is = sum-small (s .skipped) n (omega (arith, going .places, going .few-skipped)) in
       let s′ : Settled = record {
         last = k .last;
-        run = record { place = sum (sum (s .run .place) (s .run .length)) (k .bytes); length = 0 };
-        records = sum (s .records) (k .bytes / 16);
+        run = record { place = sum64 (sum64 (s .run .place) (s .run .length)) (k .bytes); length = 0 };
+        records = sum64 (s .records) (k .bytes / 16);
         skipped = s .skipped;
       } in
       record {
         last-same = refl;
         tally-same =
-          ap (λ (t : Tally). withSkipped t n) (with-some (tallied s clean runs) (take (k .bytes) waiting) (k .bytes) h)
-          ∙ tally-same
+            ap (λ (t : Tally). withSkipped t n) (with-some (tallied s clean runs) (take (k .bytes) waiting) (k .bytes) h)
+            ∙ tally-same
             (withSkipped (withRecords (tallied s clean runs) (take (k .bytes) waiting) (k .bytes)) n)
             (tallied (settledSkipped s′ n) (clean ++ take (k .bytes) waiting) (runs ++ listed (s .run .place) (s .run .length)))
             refl refl (sym place-all) (sym length-is) (sym records-is) (sym skipped-is);
@@ -148,16 +146,16 @@ module _ (s : Settled) (waiting rest clean : List ℕ) (runs : List Run) (k : St
   -- what is going stays going
   going-asked : k ≡ keptFrom 0 (s .last) waiting → n ≡ skippedFrom (k .last) (drop (k .bytes) waiting)
       → Going (settledSkipped (settledKept s k) n) (drop (k .bytes + n) waiting) rest (clean ++ take (k .bytes) waiting)
-        (runs ++ listed (runEnded s k .place) (runEnded s k .length))
+      (runs ++ listed (runEnded s k .place) (runEnded s k .length))
   going-asked k-is n-is =
       let t = tallied s clean runs in
       let a = asked (λ h. ap (λ (x : Stretch). x .last) k-is ∙ none-last (s .last) waiting (sym (ap (λ (x : Stretch). x .bytes) k-is) ∙ h)) in
       record {
         told = λ future.
-          going .told future
-          ∙ subst (λ (x : Stretch). tell t (piecesFrom 0 (s .last) (waiting ++ future)) ≡ tell (withKept t (take (x .bytes) waiting) (x .bytes)) (piecesFrom 0 (x .last) (drop (x .bytes) waiting ++ future))) (sym k-is) (tell-kept t (s .last) waiting future)
-          ∙ subst (λ (x : ℕ). tell (withKept t (take (k .bytes) waiting) (k .bytes)) (piecesFrom 0 (k .last) (drop (k .bytes) waiting ++ future)) ≡ tell (withSkipped (withKept t (take (k .bytes) waiting) (k .bytes)) x) (piecesFrom 0 (k .last) (drop x (drop (k .bytes) waiting) ++ future))) (sym n-is) (tell-skips (withKept t (take (k .bytes) waiting) (k .bytes)) (k .last) (drop (k .bytes) waiting) future)
-          ∙ ap₂ tell (a .tally-same) (ap₂ (λ (l : Last) (w : List ℕ). piecesFrom 0 l (w ++ future)) (sym (a .last-same)) (drop-drop n (k .bytes) waiting));
+            going .told future
+            ∙ subst (λ (x : Stretch). tell t (piecesFrom 0 (s .last) (waiting ++ future)) ≡ tell (withKept t (take (x .bytes) waiting) (x .bytes)) (piecesFrom 0 (x .last) (drop (x .bytes) waiting ++ future))) (sym k-is) (tell-kept t (s .last) waiting future)
+            ∙ subst (λ (x : ℕ). tell (withKept t (take (k .bytes) waiting) (k .bytes)) (piecesFrom 0 (k .last) (drop (k .bytes) waiting ++ future)) ≡ tell (withSkipped (withKept t (take (k .bytes) waiting) (k .bytes)) x) (piecesFrom 0 (k .last) (drop x (drop (k .bytes) waiting) ++ future))) (sym n-is) (tell-skips (withKept t (take (k .bytes) waiting) (k .bytes)) (k .last) (drop (k .bytes) waiting) future)
+            ∙ ap₂ tell (a .tally-same) (ap₂ (λ (l : Last) (w : List ℕ). piecesFrom 0 l (w ++ future)) (sym (a .last-same)) (drop-drop n (k .bytes) waiting));
         places = omega (arith, a .places, length-drop (k .bytes + n) waiting);
         few-records = a .few-records;
         few-skipped = a .few-skipped;
@@ -170,7 +168,7 @@ abbrev seen : List ℕ → First
 seen [] = Missing
 seen (byte ∷ rest) = firstOf byte
 
-record Reached (c : Course) : Type 0 where
+record Reached (c : Session) : Type 0 where
   inside : c .salvage .to ≤ length (c .room)
   first : c .salvage .first ≡ seen (c .taken)
   going : Going (c .salvage .settled) (waitingIn (c .salvage) (c .room)) (afterFirst (c .taken)) (c .clean) (c .runs)
@@ -234,9 +232,9 @@ reached-gathered s room rest clean runs more first taken going rest-is first-is 
   inside = gathered-inside s room more first;
   first = first-is;
   going =
-    subst (λ (k : List ℕ). Going (s .settled) k (afterFirst taken) clean runs) (sym (gathered-waits s room more first))
-    (subst (λ (k : List ℕ). Going (s .settled) (waitingIn s room ++ take (takenOf s room more) more) k clean runs) (sym rest-is)
-    (going-fed (s .settled) (waitingIn s room) rest clean runs (take (takenOf s room more) more) going));
+      subst (λ (k : List ℕ). Going (s .settled) k (afterFirst taken) clean runs) (sym (gathered-waits s room more first))
+      (subst (λ (k : List ℕ). Going (s .settled) (waitingIn s room ++ take (takenOf s room more) more) k clean runs) (sym rest-is)
+      (going-fed (s .settled) (waitingIn s room) rest clean runs (take (takenOf s room more) more) going));
 }
 
 -- what a feed that gives this answer and this room reaches
@@ -274,7 +272,7 @@ behind-small : (taken : List ℕ) → length taken < 2 ^ 64 → 1 + length (afte
 behind-small [] l = omega arith
 behind-small (x ∷ rest) l = omega arith
 
-reached-asked : (c : Course) → Reached c → length (c .taken) < 2 ^ 64 → Reached (afterCall c asks)
+reached-asked : (c : Session) → Reached c → length (c .taken) < 2 ^ 64 → Reached (afterCall c asks)
 unfolding askedOf
 reached-asked c r small =
     let s = c .salvage in
@@ -283,37 +281,37 @@ reached-asked c r small =
     let n = skippedOf s (c .room) in
     let long : length w ≡ s .to - s .from = waiting-length s (c .room) (r .inside) in
     let few : k .bytes + n ≤ length w =
-      omega (arith, kept-within (s .settled .last) w, skipped-within (k .last) (drop (k .bytes) w), length-drop (k .bytes) w) in
+    omega (arith, kept-within (s .settled .last) w, skipped-within (k .last) (drop (k .bytes) w), length-drop (k .bytes) w) in
     let left : take (s .to - (s .from + (k .bytes + n))) (drop (s .from + (k .bytes + n)) (c .room)) ≡ drop (k .bytes + n) w =
-      ap₂ take {x = s .to - (s .from + (k .bytes + n))} {y = s .to - s .from - (k .bytes + n)} (omega arith) (sym (drop-drop (k .bytes + n) (s .from) (c .room)))
-      ∙ sym (drop-take (k .bytes + n) (s .to - s .from) (drop (s .from) (c .room))) in
+    ap₂ take {x = s .to - (s .from + (k .bytes + n))} {y = s .to - s .from - (k .bytes + n)} (omega arith) (sym (drop-drop (k .bytes + n) (s .from) (c .room)))
+    ∙ sym (drop-take (k .bytes + n) (s .to - s .from) (drop (s .from) (c .room))) in
     let given : take (k .bytes) w ≡ take (k .bytes) (drop (s .from) (c .room)) =
-      take-take (k .bytes) (s .to - s .from) (drop (s .from) (c .room)) (omega (arith, few, long)) in
+    take-take (k .bytes) (s .to - s .from) (drop (s .from) (c .room)) (omega (arith, few, long)) in
     record {
       inside = r .inside;
       first = r .first;
       going =
-        subst (λ (x : List ℕ). Going (settledSkipped (settledKept (s .settled) k) n) x (afterFirst (c .taken)) (c .clean ++ take (k .bytes) (drop (s .from) (c .room))) (c .runs ++ listed (runEnded (s .settled) k .place) (runEnded (s .settled) k .length))) (sym left)
-        (subst (λ (x : List ℕ). Going (settledSkipped (settledKept (s .settled) k) n) (drop (k .bytes + n) w) (afterFirst (c .taken)) (c .clean ++ x) (c .runs ++ listed (runEnded (s .settled) k .place) (runEnded (s .settled) k .length))) given
-        (going-asked (s .settled) w (afterFirst (c .taken)) (c .clean) (c .runs) k n (r .going) (behind-small (c .taken) small) few refl refl));
+          subst (λ (x : List ℕ). Going (settledSkipped (settledKept (s .settled) k) n) x (afterFirst (c .taken)) (c .clean ++ take (k .bytes) (drop (s .from) (c .room))) (c .runs ++ listed (runEnded (s .settled) k .place) (runEnded (s .settled) k .length))) (sym left)
+          (subst (λ (x : List ℕ). Going (settledSkipped (settledKept (s .settled) k) n) (drop (k .bytes + n) w) (afterFirst (c .taken)) (c .clean ++ x) (c .runs ++ listed (runEnded (s .settled) k .place) (runEnded (s .settled) k .length))) given
+          (going-asked (s .settled) w (afterFirst (c .taken)) (c .clean) (c .runs) k n (r .going) (behind-small (c .taken) small) few refl refl));
     }
 
 -- ---- any calls
 
-reached-call : (c : Course) (call : Call) → Reached c → length (c .taken) < 2 ^ 64 → Reached (afterCall c call)
+reached-call : (c : Session) (call : Call) → Reached c → length (c .taken) < 2 ^ 64 → Reached (afterCall c call)
 reached-call c (feeds chunk) r small = reached-fed (c .salvage) (c .room) (c .taken) (c .clean) (c .runs) chunk r
 reached-call c asks r small = reached-asked c r small
 
 -- no byte is given back
-more-taken : (c : Course) (call : Call) → length (c .taken) ≤ length (afterCall c call .taken)
+more-taken : (c : Session) (call : Call) → length (c .taken) ≤ length (afterCall c call .taken)
 more-taken c (feeds chunk) = omega (arith, length-append (c .taken) (take (fedOf (c .salvage) (c .room) chunk .taken) chunk))
 more-taken c asks = omega arith
 
-all-taken : (c : Course) (calls : List Call) → length (c .taken) ≤ length (after c calls .taken)
+all-taken : (c : Session) (calls : List Call) → length (c .taken) ≤ length (after c calls .taken)
 all-taken c [] = omega arith
 all-taken c (call ∷ calls) = omega (arith, more-taken c call, all-taken (afterCall c call) calls)
 
-reached : (c : Course) (calls : List Call) → Reached c → length (after c calls .taken) < 2 ^ 64 → Reached (after c calls)
+reached : (c : Session) (calls : List Call) → Reached c → length (after c calls .taken) < 2 ^ 64 → Reached (after c calls)
 reached c [] r small = r
 reached c (call ∷ calls) r small =
     let now : length (c .taken) < 2 ^ 64 = omega (arith, more-taken c call, all-taken (afterCall c call) calls) in
@@ -334,7 +332,7 @@ finished s t e = by (ltb (s .to - s .from) 16) refl e
     by false h q = let z : _≡_ {A = ℕ} 0 1 = cc in absurd (omega arith)
 
 changed-is : (taken : List ℕ) → isChanged (seen taken) ≡ changedOf taken
-unfolding changedOf firstOf
+unfolding changedOf firstOf isChanged
 changed-is [] = refl
 changed-is (x ∷ rest) = by (eqb x 1)
   where
@@ -342,16 +340,16 @@ changed-is (x ∷ rest) = by (eqb x 1)
     by true = refl
     by false = refl
 
-size-is : (taken : List ℕ) (run : Run) → run .place + run .length ≡ 1 + length (afterFirst taken) → length taken < 2 ^ 64 → allBytes (seen taken) run ≡ length taken
-unfolding allBytes
+size-is : (taken : List ℕ) (run : Run) → run .place + run .length ≡ 1 + length (afterFirst taken) → length taken < 2 ^ 64 → sizeOf (seen taken) run ≡ length taken
+unfolding sizeOf
 size-is [] run e l = refl
 size-is (x ∷ rest) run e l =
-    first-by x (λ (f : First). allBytes f run ≡ length (x ∷ rest)) here here
+    first-by x (λ (f : First). sizeOf f run ≡ length (x ∷ rest)) here here
   where
-    here : sum (run .place) (run .length) ≡ suc (length rest)
+    here : sum64 (run .place) (run .length) ≡ suc (length rest)
     here = sum-small (run .place) (run .length) (omega arith) ∙ omega arith
 
-exact-totals : (c : Course) → Reached c → length (c .taken) < 2 ^ 64 → c .salvage .to - c .salvage .from < 16 → Exact c (totalsOf (c .salvage))
+exact-totals : (c : Session) → Reached c → length (c .taken) < 2 ^ 64 → c .salvage .to - c .salvage .from < 16 → Exact c (totalsOf (c .salvage))
 unfolding totalsOf cleanOf runsOf piecesOf
 exact-totals c r small few =
     let s = c .salvage .settled in
@@ -363,29 +361,29 @@ exact-totals c r small few =
     let long : length w ≡ count = waiting-length (c .salvage) (c .room) (r .inside) in
     let all = behind-small (c .taken) small in
     let told : tell startTally ps ≡ withSkipped t (length w) =
-      ap (λ (k : List ℕ). tell startTally (piecesFrom 0 Nothing k)) (sym (append-nil (afterFirst (c .taken))))
-      ∙ r .going .told []
-      ∙ ap (λ (k : List ℕ). tell t (piecesFrom 0 (s .last) k)) (append-nil w)
-      ∙ tell-rest t (s .last) w (omega (arith, long)) in
-    let length-is : sum (s .run .length) count ≡ s .run .length + length w =
-      sum-small (s .run .length) count (omega (arith, long, places, all)) ∙ omega (arith, long) in
-    let skipped-is : sum (s .skipped) count ≡ s .skipped + length w =
-      sum-small (s .skipped) count (omega (arith, long, places, all, r .going .few-skipped)) ∙ omega (arith, long) in
+    ap (λ (k : List ℕ). tell startTally (piecesFrom 0 Nothing k)) (sym (append-nil (afterFirst (c .taken))))
+    ∙ r .going .told []
+    ∙ ap (λ (k : List ℕ). tell t (piecesFrom 0 (s .last) k)) (append-nil w)
+    ∙ tell-rest t (s .last) w (omega (arith, long)) in
+    let length-is : sum64 (s .run .length) count ≡ s .run .length + length w =
+    sum-small (s .run .length) count (omega (arith, long, places, all)) ∙ omega (arith, long) in
+    let skipped-is : sum64 (s .skipped) count ≡ s .skipped + length w =
+    sum-small (s .skipped) count (omega (arith, long, places, all, r .going .few-skipped)) ∙ omega (arith, long) in
     record {
       clean = ap (λ (k : List ℕ). 1 ∷ k) (sym (ap (λ (x : Tally). x .clean) told) ∙ tell-clean startTally ps);
       runs =
-        ap (λ (n : ℕ). c .runs ++ listed (s .run .place) n) length-is
-        ∙ sym (ap (λ (x : Tally). x .runs ++ listed (x .place) (x .before)) told)
-        ∙ tell-runs startTally ps;
+          ap (λ (n : ℕ). c .runs ++ listed (s .run .place) n) length-is
+          ∙ sym (ap (λ (x : Tally). x .runs ++ listed (x .place) (x .before)) told)
+          ∙ tell-runs startTally ps;
       first = ap isChanged (r .first) ∙ changed-is (c .taken);
       records = sym (ap (λ (x : Tally). x .records) told) ∙ tell-records startTally ps ∙ zero-add (recordsIn ps);
       skipped = skipped-is ∙ sym (ap (λ (x : Tally). x .skipped) told) ∙ tell-skipped startTally ps ∙ zero-add (skippedIn ps);
       bytes =
-        ap (λ (f : First). allBytes f (record { place = s .run .place; length = sum (s .run .length) count })) (r .first)
-        ∙ size-is (c .taken) (record { place = s .run .place; length = sum (s .run .length) count }) (omega (arith, length-is, places)) small;
+          ap (λ (f : First). sizeOf f (record { place = s .run .place; length = sum64 (s .run .length) count })) (r .first)
+          ∙ size-is (c .taken) (record { place = s .run .place; length = sum64 (s .run .length) count }) (omega (arith, length-is, places)) small;
     }
 
-exact : (c : Course) (t : Totals) → Reached c → length (c .taken) < 2 ^ 64 → endedOf (c .salvage) ≡ Whole t → Exact c t
+exact : (c : Session) (t : Totals) → Reached c → length (c .taken) < 2 ^ 64 → endedOf (c .salvage) ≡ Whole t → Exact c t
 exact c t r small e =
     let f = finished (c .salvage) t e in
     subst (Exact c) (sym (f .totals)) (exact-totals c r small (f .settled))
@@ -411,7 +409,7 @@ inside-fed s room chunk = by (s .first) chunk
     by Kept chunk = gathered-inside s room chunk Kept
     by Changed chunk = gathered-inside s room chunk Changed
 
-inside-after : (c : Course) (calls : List Call) → c .salvage .to ≤ length (c .room) → after c calls .salvage .to ≤ length (after c calls .room)
+inside-after : (c : Session) (calls : List Call) → c .salvage .to ≤ length (c .room) → after c calls .salvage .to ≤ length (after c calls .room)
 unfolding askedOf
 inside-after c [] l = l
 inside-after c (feeds chunk ∷ calls) l = inside-after (afterCall c (feeds chunk)) calls (inside-fed (c .salvage) (c .room) chunk)
@@ -441,16 +439,101 @@ feeds-on s room chunk h l some = by (s .first) chunk some
   where
     few : length (waitingIn s room) < 16
     few = omega (arith, ltb-true (s .to - s .from) 16 h, length-take (s .to - s .from) (drop (s .from) room))
+
     by : (f : First) (chunk : List ℕ) → 0 < length chunk → 0 < fedBy f s room chunk .taken
     by Missing [] some = absurd (omega arith)
     by Missing (x ∷ more) some = omega arith
     by Kept chunk some = omega (arith, few)
     by Changed chunk some = omega (arith, few)
 
-pub goes-on : AlwaysGoesOn
+pub goes-on : GoesOn
 goes-on room calls =
     let c = after (begun room) calls in
     record {
       asked = asks-on (c .salvage) (c .room) (inside-after (begun room) calls (omega arith));
       fed = λ chunk h l some. feeds-on (c .salvage) (c .room) chunk h l some;
     }
+
+-- ---- and gets there
+
+after-both : (c : Session) (first then : List Call) → after c (first ++ then) ≡ after (after c first) then
+after-both c [] then = refl
+after-both c (call ∷ first) then = after-both (afterCall c call) first then
+
+-- asked until all is settled
+record Settles (c : Session) : Type 0 where
+  calls : List Call
+  taken : after c calls .taken ≡ c .taken
+  room : after c calls .room ≡ c .room
+  settled : isSettledOf (after c calls .salvage) ≡ true
+
+settles-by : (fuel : ℕ) (c : Session) (b : Bool) → isSettledOf (c .salvage) ≡ b → c .salvage .to ≤ length (c .room) → c .salvage .to - c .salvage .from ≤ fuel → Settles c
+unfolding askedOf
+settles-by zero c true h l few = record { calls = []; taken = refl; room = refl; settled = h }
+settles-by zero c false h l few = absurd (omega (arith, asks-on (c .salvage) (c .room) l h))
+settles-by (suc fuel) c true h l few = record { calls = []; taken = refl; room = refl; settled = h }
+settles-by (suc fuel) c false h l few =
+    let next = afterCall c asks in
+    let rest = settles-by fuel next (isSettledOf (next .salvage)) refl l (omega (arith, asks-on (c .salvage) (c .room) l h)) in
+    record { calls = asks ∷ rest .calls; taken = rest .taken; room = rest .room; settled = rest .settled }
+
+settles : (c : Session) → c .salvage .to ≤ length (c .room) → Settles c
+settles c l = settles-by (c .salvage .to - c .salvage .from) c (isSettledOf (c .salvage)) refl l (omega arith)
+
+-- a room keeps its size
+gathered-length : (s : Salvage) (room more : List ℕ) → length (gatheredIn s room more) ≡ length room
+unfolding gatheredIn
+gathered-length s room more =
+    let n = takenOf s room more in
+    let w = waitingIn s room in
+    let rest = drop (length w + n) room in
+    let count : length (take n more) ≡ n = length-take-le n more (omega arith) in
+    omega (
+      arith,
+      count,
+      length-append w (take n more ++ rest),
+      length-append (take n more) rest,
+      length-drop (length w + n) room,
+      length-take (s .to - s .from) (drop (s .from) room),
+      length-drop (s .from) room,
+    )
+
+room-length : (s : Salvage) (room chunk : List ℕ) → length (roomOf s room chunk) ≡ length room
+unfolding roomOf
+room-length s room chunk = gathered-length s room (behindFirst (s .first) chunk)
+
+record Takes (c : Session) (rest : List ℕ) : Type 0 where
+  calls : List Call
+  all : after c calls .taken ≡ c .taken ++ rest
+  settled : isSettledOf (after c calls .salvage) ≡ true
+
+takes-by : (fuel : ℕ) (c : Session) (rest : List ℕ) → length rest ≤ fuel → c .salvage .to ≤ length (c .room) → 16 ≤ length (c .room) → isSettledOf (c .salvage) ≡ true → Takes c rest
+takes-by zero c [] few l room h = record { calls = []; all = sym (append-nil (c .taken)); settled = h }
+takes-by zero c (x ∷ rest) few l room h = absurd (omega arith)
+takes-by (suc fuel) c [] few l room h = record { calls = []; all = sym (append-nil (c .taken)); settled = h }
+takes-by (suc fuel) c (x ∷ rest) few l room h =
+    let chunk = x ∷ rest in
+    let n = fedOf (c .salvage) (c .room) chunk .taken in
+    let some = feeds-on (c .salvage) (c .room) chunk h room (omega arith) in
+    let fed = afterCall c (feeds chunk) in
+    let asked = settles fed (inside-fed (c .salvage) (c .room) chunk) in
+    let next = after fed (asked .calls) in
+    let size : length (next .room) ≡ length (c .room) = ap length (asked .room) ∙ room-length (c .salvage) (c .room) chunk in
+    let more = takes-by fuel next (drop n chunk) (omega (arith, some, length-drop n chunk)) (inside-after fed (asked .calls) (inside-fed (c .salvage) (c .room) chunk)) (omega (arith, size)) (asked .settled) in
+    let both : after c (feeds chunk ∷ (asked .calls ++ more .calls)) ≡ after next (more .calls) = after-both fed (asked .calls) (more .calls) in
+    record {
+      calls = feeds chunk ∷ (asked .calls ++ more .calls);
+      all =
+          ap (λ (k : Session). k .taken) both
+          ∙ more .all
+          ∙ ap (λ (k : List ℕ). k ++ drop n chunk) (asked .taken)
+          ∙ append-assoc (c .taken) (take n chunk) (drop n chunk)
+          ∙ ap (λ (k : List ℕ). c .taken ++ k) (take-append-drop n chunk);
+      settled = ap (λ (k : Session). isSettledOf (k .salvage)) both ∙ more .settled;
+    }
+
+pub gets-there : GetsThere
+unfolding isSettledOf
+gets-there room file l =
+    let takes = takes-by (length file) (begun room) file (omega arith) (omega arith) l refl in
+    record { calls = takes .calls; all = takes .all; settled = takes .settled }
