@@ -65,25 +65,23 @@ covers-by (suc fuel) last (x ∷ s) l =
 
 -- ---- the runs
 
-apart : (least place before : ℕ) (ps : List Piece) → least ≤ place → Apart least (runsFrom place before ps)
-apart least place zero [] l = tt
-apart least place (suc n) [] l = (l, omega arith, tt)
-apart least place zero (kept bytes ∷ ps) l = apart least (place + 0 + 16) 0 ps (omega arith)
-apart least place (suc n) (kept bytes ∷ ps) l = (l, omega arith, apart (place + suc n + 1) (place + suc n + 16) 0 ps (omega arith))
-apart least place zero (skipped byte ∷ ps) l = apart least place (0 + 1) ps l
-apart least place (suc n) (skipped byte ∷ ps) l = apart least place (suc n + 1) ps l
+apart : (ps : List Piece) (least place before : ℕ) → least ≤ place → Apart least (runsFrom place before ps)
+apart [] least place zero l = tt
+apart [] least place (suc n) l = (l, omega arith, tt)
+apart (kept bytes ∷ ps) least place zero l = apart ps least (place + 0 + 16) 0 (omega arith)
+apart (kept bytes ∷ ps) least place (suc n) l = (l, omega arith, apart ps (place + suc n + 1) (place + suc n + 16) 0 (omega arith))
+apart (skipped byte ∷ ps) least place before l = apart ps least place (before + 1) l
 
 pub runs-longest : RunsLongest
 unfolding runsOf
-runs-longest file = apart 1 1 0 (piecesOf file) (omega arith)
+runs-longest file = apart (piecesOf file) 1 1 0 (omega arith)
 
-runs-sum : (place before : ℕ) (ps : List Piece) → inRuns (runsFrom place before ps) ≡ before + skippedIn ps
-runs-sum place zero [] = refl
-runs-sum place (suc n) [] = refl
-runs-sum place zero (kept bytes ∷ ps) = runs-sum (place + 0 + 16) 0 ps
-runs-sum place (suc n) (kept bytes ∷ ps) = omega (arith, runs-sum (place + suc n + 16) 0 ps)
-runs-sum place zero (skipped byte ∷ ps) = runs-sum place (0 + 1) ps ∙ omega arith
-runs-sum place (suc n) (skipped byte ∷ ps) = runs-sum place (suc n + 1) ps ∙ omega arith
+runs-sum : (ps : List Piece) (place before : ℕ) → inRuns (runsFrom place before ps) ≡ before + skippedIn ps
+runs-sum [] place zero = refl
+runs-sum [] place (suc n) = refl
+runs-sum (kept bytes ∷ ps) place zero = runs-sum ps (place + 0 + 16) 0
+runs-sum (kept bytes ∷ ps) place (suc n) = omega (arith, runs-sum ps (place + suc n + 16) 0)
+runs-sum (skipped byte ∷ ps) place before = runs-sum ps place (before + 1) ∙ omega arith
 
 -- so many bytes that no run has stand before the runs
 marks-shift : (place n count : ℕ) (runs : List Run) → Apart (place + n) runs → marks place runs (n + count) ≡ replicate n false ++ marks (place + n) runs count
@@ -108,7 +106,7 @@ marks-run place n count runs =
 marks-kept : (place q : ℕ) (ps : List Piece) → q ≡ place + 16 → marks q (runsFrom q 0 ps) (0 + length (flags ps)) ≡ flags ps
     → marks place (runsFrom q 0 ps) (16 + length (flags ps)) ≡ replicate 16 false ++ flags ps
 marks-kept place q ps e rest =
-    marks-shift place 16 (length (flags ps)) (runsFrom q 0 ps) (apart (place + 16) q 0 ps (omega arith))
+    marks-shift place 16 (length (flags ps)) (runsFrom q 0 ps) (apart ps (place + 16) q 0 (omega arith))
     ∙ ap (λ (k : List Bool). replicate 16 false ++ k)
     (ap₂ (λ (p n : ℕ). marks p (runsFrom q 0 ps) n) (sym e) (sym (zero-add (length (flags ps)))) ∙ rest)
 
@@ -117,26 +115,23 @@ marks-skipped : (n : ℕ) (fs : List Bool) → replicate (n + 1) true ++ fs ≡ 
 marks-skipped n fs =
     ap (λ (k : List Bool). k ++ fs) (sym (replicate-append-replicate n 1 true)) ∙ append-assoc (replicate n true) (true ∷ []) fs
 
-marks-all : (place before : ℕ) (ps : List Piece) → marks place (runsFrom place before ps) (before + length (flags ps)) ≡ replicate before true ++ flags ps
-marks-all place zero [] = refl
-marks-all place (suc n) [] = marks-run place (suc n) 0 []
-marks-all place zero (kept bytes ∷ ps) =
+marks-all : (ps : List Piece) (place before : ℕ) → marks place (runsFrom place before ps) (before + length (flags ps)) ≡ replicate before true ++ flags ps
+marks-all [] place zero = refl
+marks-all [] place (suc n) = marks-run place (suc n) 0 []
+marks-all (kept bytes ∷ ps) place zero =
     let count : 0 + length (flags (kept bytes ∷ ps)) ≡ 16 + length (flags ps) = omega arith in
     ap (marks place (runsFrom (place + 0 + 16) 0 ps)) count
-    ∙ marks-kept place (place + 0 + 16) ps (omega arith) (marks-all (place + 0 + 16) 0 ps)
-marks-all place (suc n) (kept bytes ∷ ps) =
+    ∙ marks-kept place (place + 0 + 16) ps (omega arith) (marks-all ps (place + 0 + 16) 0)
+marks-all (kept bytes ∷ ps) place (suc n) =
     let count : suc n + length (flags (kept bytes ∷ ps)) ≡ suc n + (16 + length (flags ps)) = omega arith in
     let rest = runsFrom (place + suc n + 16) 0 ps in
     ap (marks place (record { place = place; length = suc n } ∷ rest)) count
     ∙ marks-run place (suc n) (16 + length (flags ps)) rest
     ∙ ap (λ (k : List Bool). replicate (suc n) true ++ k)
-    (marks-kept (place + suc n) (place + suc n + 16) ps refl (marks-all (place + suc n + 16) 0 ps))
-marks-all place zero (skipped byte ∷ ps) =
-    let count : 0 + suc (length (flags ps)) ≡ 0 + 1 + length (flags ps) = omega arith in
-    ap (marks place (runsFrom place (0 + 1) ps)) count ∙ marks-all place (0 + 1) ps
-marks-all place (suc n) (skipped byte ∷ ps) =
-    let count : suc n + suc (length (flags ps)) ≡ suc n + 1 + length (flags ps) = omega arith in
-    ap (marks place (runsFrom place (suc n + 1) ps)) count ∙ marks-all place (suc n + 1) ps ∙ marks-skipped (suc n) (flags ps)
+    (marks-kept (place + suc n) (place + suc n + 16) ps refl (marks-all ps (place + suc n + 16) 0))
+marks-all (skipped byte ∷ ps) place before =
+    let count : before + suc (length (flags ps)) ≡ before + 1 + length (flags ps) = omega arith in
+    ap (marks place (runsFrom place (before + 1) ps)) count ∙ marks-all ps place (before + 1) ∙ marks-skipped before (flags ps)
 
 pub all-bytes : AllBytes
 unfolding runsOf piecesOf
@@ -147,7 +142,7 @@ all-bytes file =
     let size : length (joined ps) ≡ length s = ap length (covers .bytes) in
     record {
       every-byte = covers .bytes;
-      as-listed = ap (marks 1 (runsFrom 1 0 ps)) {x = length s} {y = 0 + length (flags ps)} (omega (arith, size, covers .flagged)) ∙ marks-all 1 0 ps;
+      as-listed = ap (marks 1 (runsFrom 1 0 ps)) {x = length s} {y = 0 + length (flags ps)} (omega (arith, size, covers .flagged)) ∙ marks-all ps 1 0;
       adds-up = covers .counts ∙ size;
-      runs-add-up = runs-sum 1 0 ps ∙ zero-add (skippedIn ps);
+      runs-add-up = runs-sum ps 1 0 ∙ zero-add (skippedIn ps);
     }
