@@ -15,8 +15,7 @@ mod verdicts;
 
 use gatherings::Gathering;
 use libc::STDIN_FILENO;
-use libc::STDOUT_FILENO;
-use outputs::Block;
+use lines::Block;
 use scripts::Buffer;
 use scripts::Line;
 use scripts::Progress;
@@ -99,7 +98,7 @@ fn finish(
     let last = progress
         .run
         .run_line(gathering, line, receive, transmit, buffer, out);
-    io::write_all(STDOUT_FILENO, parts::between(out, 0, last.waiting));
+    last.sink.flush(out);
 }
 
 // "At the start: .. receive and transmit table of 1,024 zeros". What a line can lend past these is only a length.

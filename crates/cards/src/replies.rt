@@ -1,11 +1,9 @@
 // What a call has written: its line.
 use crate::benches::Done;
-use crate::outputs::Block;
-use crate::outputs::put;
 use crate::outputs::put_line;
 use crate::outputs::put_one;
-use crate::outputs::put_text;
-use crate::outputs::put_word;
+use lines::Block;
+use lines::Sink;
 use terminal::Answer;
 use terminal::NextMoment;
 use terminal::Terminal;
@@ -32,16 +30,16 @@ fn bit(on: bool) -> u64 {
     if on { 1 } else { 0 }
 }
 
-// Puts the next moment, or that there is none, and gives the next place.
-fn put_next(out: &mut Block, at: usize, next: NextMoment) -> usize {
+// Puts the next moment, or that there is none.
+fn put_next(sink: Sink, out: &mut Block, next: NextMoment) -> Sink {
     match next {
-        NextMoment::At(moment) => put_one(out, at, b" next T", moment.0),
-        NextMoment::Never => put_text(out, at, b" next none"),
+        NextMoment::At(moment) => put_one(sink, out, b" next T", moment.0),
+        NextMoment::Never => sink.put_text(out, b" next none"),
     }
 }
 
-// Puts the line of a state, and gives the next place.
-fn put_state(out: &mut Block, at: usize, terminal: Terminal) -> usize {
+// Puts the line of a state.
+fn put_state(sink: Sink, out: &mut Block, terminal: Terminal) -> Sink {
     let values = [
         terminal.status().0 as u64,
         terminal.last_command().0 as u64,
@@ -52,33 +50,33 @@ fn put_state(out: &mut Block, at: usize, terminal: Terminal) -> usize {
         bit(terminal.is_inhibited()),
         terminal.time.0,
     ];
-    let place = put_line(
+    let after = put_line(
+        sink,
         out,
-        at,
         b"status W last W sync W selftest B shut B B inhibit B time T",
         values,
     );
-    put_next(out, place, terminal.next_moment())
+    put_next(after, out, terminal.next_moment())
 }
 
-// Puts the words of an answer, a space before each, and gives the next place.
-fn put_sent(out: &mut Block, at: usize, words: [u16; 32], count: u16) -> usize {
-    let mut place = at;
+// Puts the words of an answer, a space before each.
+fn put_sent(sink: Sink, out: &mut Block, words: [u16; 32], count: u16) -> Sink {
+    let mut after = sink;
     let mut i: u16 = 0;
     while i < count {
         if i < 32 {
-            place = put(out, place, b' ');
-            place = put_word(out, place, words[i as usize]);
+            after = after.put(out, b' ');
+            after = after.put_word(out, words[i as usize]);
         }
         i += 1;
     }
-    place
+    after
 }
 
-// Puts the answer that an event carries, and gives the next place: "` answer BUS DUE STATUS N W..W` where an answer is carried".
-fn put_answer(out: &mut Block, at: usize, answer: Answer) -> usize {
+// Puts the answer that an event carries: "` answer BUS DUE STATUS N W..W` where an answer is carried".
+fn put_answer(sink: Sink, out: &mut Block, answer: Answer) -> Sink {
     if !answer.given {
-        return at;
+        return sink;
     }
     let values = [
         answer.bus as u64,
@@ -90,19 +88,19 @@ fn put_answer(out: &mut Block, at: usize, answer: Answer) -> usize {
         0,
         0,
     ];
-    let place = put_line(out, at, b" answer B T W N", values);
+    let after = put_line(sink, out, b" answer B T W N", values);
     let words = answer.words;
-    put_sent(out, place, words, answer.count)
+    put_sent(after, out, words, answer.count)
 }
 
-// Puts the line of an event that is not refused, and gives the next place: "`ok`, then ..".
-fn put_happened(out: &mut Block, at: usize, answer: Answer, cut: bool) -> usize {
-    let ok = put_text(out, at, b"ok");
-    let place = put_answer(out, ok, answer);
+// Puts the line of an event that is not refused: "`ok`, then ..".
+fn put_happened(sink: Sink, out: &mut Block, answer: Answer, cut: bool) -> Sink {
+    let ok = sink.put_text(out, b"ok");
+    let after = put_answer(ok, out, answer);
     if cut {
-        return put_text(out, place, b" cut");
+        return after.put_text(out, b" cut");
     }
-    place
+    after
 }
 
 // Gives so many words of a table from a place on, none where it has not so many.
@@ -115,40 +113,39 @@ fn words_at(table: &[u16], start: usize, count: usize) -> &[u16] {
     &table[..0]
 }
 
-// Puts words, a space before each but the first, and gives the next place.
-fn put_words(out: &mut Block, at: usize, words: &[u16]) -> usize {
-    let mut place = at;
+// Puts words, a space before each but the first.
+fn put_words(sink: Sink, out: &mut Block, words: &[u16]) -> Sink {
+    let mut after = sink;
     let mut i = 0;
     while i < words.len() {
         if i > 0 {
-            place = put(out, place, b' ');
+            after = after.put(out, b' ');
         }
-        place = put_word(out, place, words[i]);
+        after = after.put_word(out, words[i]);
         i += 1;
     }
-    place
+    after
 }
 
-// Puts what a call gave, with the receive table as it is after it, and gives the next place.
-fn put_done(out: &mut Block, at: usize, done: Done, receive: &[u16]) -> usize {
+// Puts what a call gave, with the receive table as it is after it.
+fn put_done(sink: Sink, out: &mut Block, done: Done, receive: &[u16]) -> Sink {
     let answer = done.answer;
     let terminal = done.bench.terminal;
     let reply = done.reply;
     match reply {
-        Reply::Ok => put_text(out, at, b"ok"),
-        Reply::Refused(refusal) => put_one(out, at, b"refused N", refusal.0 as u64),
-        Reply::Happened => put_happened(out, at, answer, done.cut),
-        Reply::Words(start, count) => put_words(out, at, words_at(receive, start, count)),
-        Reply::State => put_state(out, at, terminal),
-        Reply::Verdict(verdict) => put_one(out, at, b"verdict N", verdict.0 as u64),
-        Reply::Looked(count) => put_one(out, at, b"looked N", count as u64),
-        Reply::Records(count) => put_one(out, at, b"records N", count),
-        Reply::NoCall => put_text(out, at, b"?"),
+        Reply::Ok => sink.put_text(out, b"ok"),
+        Reply::Refused(refusal) => put_one(sink, out, b"refused N", refusal.0 as u64),
+        Reply::Happened => put_happened(sink, out, answer, done.cut),
+        Reply::Words(start, count) => put_words(sink, out, words_at(receive, start, count)),
+        Reply::State => put_state(sink, out, terminal),
+        Reply::Verdict(verdict) => put_one(sink, out, b"verdict N", verdict.0 as u64),
+        Reply::Looked(count) => put_one(sink, out, b"looked N", count as u64),
+        Reply::Records(count) => put_one(sink, out, b"records N", count),
+        Reply::NoCall => sink.put_text(out, b"?"),
     }
 }
 
-// Puts the whole line, and gives the next place.
-pub(crate) fn put_reply(out: &mut Block, at: usize, done: Done, receive: &[u16]) -> usize {
-    let end = put_done(out, at, done, receive);
-    put(out, end, b'\n')
+// Puts the whole line.
+pub(crate) fn put_reply(sink: Sink, out: &mut Block, done: Done, receive: &[u16]) -> Sink {
+    put_done(sink, out, done, receive).put(out, b'\n')
 }

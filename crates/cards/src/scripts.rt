@@ -8,13 +8,15 @@ use crate::events::record_of;
 use crate::gatherings::Gathering;
 use crate::numbers::mask;
 use crate::numbers::word;
-use crate::outputs::Block;
 use crate::parts::between;
 use crate::parts::last;
 use crate::replies::Reply;
 use crate::replies::put_reply;
 use crate::setups::MASKS;
 use crate::verdicts::plan_of;
+use libc::STDOUT_FILENO;
+use lines::Block;
+use lines::Sink;
 use terminal::Event;
 use words::Moment;
 
@@ -25,10 +27,10 @@ pub(crate) type Table = [u16; 2048];
 
 pub(crate) type Buffer = [u8; 65536];
 
-// What a line leaves to the next: the bench, and how many bytes of output wait.
+// What a line leaves to the next: the bench, and where its output goes.
 pub(crate) struct Run {
     pub(crate) bench: Bench,
-    pub(crate) waiting: usize,
+    pub(crate) sink: Sink,
 }
 
 // What a block leaves to the next, which may cut a line.
@@ -104,7 +106,10 @@ impl Bench {
 impl Run {
     pub(crate) fn start() -> Run {
         let bench = Bench::start();
-        Run { bench, waiting: 0 }
+        Run {
+            bench,
+            sink: Sink::to(STDOUT_FILENO),
+        }
     }
 
     // Makes the call that a line is, and writes its line.
@@ -119,10 +124,10 @@ impl Run {
         let bench = self.bench;
         let done = bench.perform(call_of(line), line, receive, transmit, buffer);
         let after = done.bench;
-        let waiting = put_reply(out, self.waiting, done, receive);
+        let sink = self.sink;
         Run {
             bench: after,
-            waiting,
+            sink: put_reply(sink, out, done, receive),
         }
     }
 

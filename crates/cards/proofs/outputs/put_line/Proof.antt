@@ -6,10 +6,10 @@ use Rattle.cards.proofs.outputs.put_line.Statement.{statement}
 use Rattle.cards.proofs.outputs.put_line.Tie as tie
 
 abbrev Inv-loop : tie.InvT-loop
-Inv-loop out₀ at line values place₀ used₀ i₀ out place used i = Unit {0}
+Inv-loop out₀ line values after₀ used₀ i₀ out after used i = Unit {0}
 
 abbrev μ-loop : tie.MeasureT-loop
-μ-loop out₀ at line values place₀ used₀ i₀ out place used i = length line - i
+μ-loop out₀ line values after₀ used₀ i₀ out after used i = length line - i
 
 loop-holds : tie.Need-loop-holds Inv-loop μ-loop
 loop-holds c = tt

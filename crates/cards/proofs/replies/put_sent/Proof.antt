@@ -5,10 +5,10 @@ use Rattle.cards.proofs.replies.put_sent.Statement.{statement}
 use Rattle.cards.proofs.replies.put_sent.Tie as tie
 
 abbrev Inv-loop : tie.InvT-loop
-Inv-loop out₀ at count words place₀ i₀ out place i = Unit {0}
+Inv-loop out₀ count words after₀ i₀ out after i = Unit {0}
 
 abbrev μ-loop : tie.MeasureT-loop
-μ-loop out₀ at count words place₀ i₀ out place i = count - i
+μ-loop out₀ count words after₀ i₀ out after i = count - i
 
 loop-holds : tie.Need-loop-holds Inv-loop μ-loop
 loop-holds c = tt

@@ -6,10 +6,10 @@ use Rattle.cards.proofs.replies.put_words.Statement.{statement}
 use Rattle.cards.proofs.replies.put_words.Tie as tie
 
 abbrev Inv-loop : tie.InvT-loop
-Inv-loop out₀ at words place₀ i₀ out place i = Unit {0}
+Inv-loop out₀ words after₀ i₀ out after i = Unit {0}
 
 abbrev μ-loop : tie.MeasureT-loop
-μ-loop out₀ at words place₀ i₀ out place i = length words - i
+μ-loop out₀ words after₀ i₀ out after i = length words - i
 
 loop-holds : tie.Need-loop-holds Inv-loop μ-loop
 loop-holds c = tt

@@ -1,21 +1,24 @@
--- `put_text` is safe and ends: the measure is what is left of the text. Assumes nothing.
+-- `put_name` is safe and ends: the measure is what is left of the name. Assumes nothing.
 use Prim.Native.Nat.{_-_}
 use lib.ListN.{length}
 use borrow.Author.Needs.{needs}
-use Rattle.cards.proofs.outputs.put_text.Statement.{statement}
-use Rattle.cards.proofs.outputs.put_text.Tie as tie
+use Rattle.bussave.proofs.outputs.put_name.Statement.{statement}
+use Rattle.bussave.proofs.outputs.put_name.Tie as tie
 
 abbrev Inv-loop : tie.InvT-loop
-Inv-loop out₀ at text place₀ i₀ out place i = Unit {0}
+Inv-loop block₀ name after₀ i₀ block after i = Unit {0}
 
 abbrev μ-loop : tie.MeasureT-loop
-μ-loop out₀ at text place₀ i₀ out place i = length text - i
+μ-loop block₀ name after₀ i₀ block after i = length name - i
 
 loop-holds : tie.Need-loop-holds Inv-loop μ-loop
 loop-holds c = tt
 
-shared-slice-read-put : tie.Need-shared-slice-read-put Inv-loop μ-loop
-shared-slice-read-put c = search needs
+shared-slice-read-shown : tie.Need-shared-slice-read-shown Inv-loop μ-loop
+shared-slice-read-shown c = search needs
+
+shown-requires : tie.Need-shown-requires Inv-loop μ-loop
+shown-requires c κs = tt
 
 put-requires : tie.Need-put-requires Inv-loop μ-loop
 put-requires c κs = tt
@@ -32,14 +35,15 @@ loop-again c = tt
 returns : tie.Need-returns Inv-loop μ-loop
 returns c = tt
 
-pub put-text-spec : {M : Type 1} → statement M
-put-text-spec =
+pub put-name-spec : {M : Type 1} → statement M
+put-name-spec =
     tie.close
     (tie.spec
     Inv-loop
     μ-loop
     loop-holds
-    shared-slice-read-put
+    shared-slice-read-shown
+    shown-requires
     put-requires
     add-i
     loop-less

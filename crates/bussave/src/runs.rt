@@ -1,0 +1,181 @@
+// One run of the program: files opened, saved and closed (02 c). The clean file is made once the damaged one was read from, so that one
+// that cannot be read leaves none; it is never a file that exists. Refusals: none.
+use crate::complaints::complain;
+use crate::complaints::remark;
+use crate::names::is_dash;
+use crate::outputs::put_end;
+use crate::outputs::put_named;
+use crate::outputs::put_run;
+use crate::savings::Saving;
+use libc::STDIN_FILENO;
+use libc::STDOUT_FILENO;
+use lines::Block;
+use lines::Sink;
+use records::VERSION;
+use salvage::Ended;
+use salvage::Salvage;
+use salvage::Totals;
+
+// What stopped a saving before the end of the file.
+enum Fault {
+    None,
+    Lines,
+    Clean,
+    Damaged,
+}
+
+// Opens the damaged file, "-" being standard input. A negative answer: it cannot be opened.
+fn open_damaged(name: &[u8]) -> i32 {
+    if is_dash(name) {
+        return STDIN_FILENO;
+    }
+    os::open_read(name)
+}
+
+// Writes the lines that wait.
+fn end_lines(listed: Sink, listing: &Block) {
+    if listed.flush(listing).failed {
+        complain(b"standard output");
+    }
+}
+
+// Ends the lines by the name of the file that failed.
+fn end_in_error(listed: Sink, listing: &mut Block, name: &[u8]) {
+    end_lines(put_named(listed, listing, b"# error ", name), listing);
+}
+
+// Says what failed just now, and ends the lines by its name.
+fn fail(listed: Sink, listing: &mut Block, name: &[u8]) {
+    complain(name);
+    end_in_error(listed, listing, name);
+}
+
+// Says that what is in the clean file is not all: it stays, as what it has is good.
+fn say_cut(clean: &[u8]) {
+    remark(clean, b": not whole\n");
+}
+
+// Writes what waits for the clean file, and says whether all of it is on the disk.
+fn close_clean(clean: Sink, saved: &Block) -> bool {
+    let after = clean.flush(saved);
+    if after.failed {
+        return false;
+    }
+    if libc::fsync(after.fd) != 0 {
+        return false;
+    }
+    libc::close(after.fd) == 0
+}
+
+impl Saving {
+    fn fault(self) -> Fault {
+        if self.listed.failed {
+            return Fault::Lines;
+        }
+        if self.clean.failed {
+            return Fault::Clean;
+        }
+        if self.got != 0 {
+            return Fault::Damaged;
+        }
+        Fault::None
+    }
+
+    // Ends a saving of which every byte is settled. The clean file is closed first, so that "# end" says that it is whole.
+    fn end_whole(self, totals: Totals, listing: &mut Block, saved: &Block, clean: &[u8]) {
+        let run = totals.run;
+        let listed = self.listed;
+        let after = put_run(listed, listing, run);
+        let sink = self.clean;
+        if close_clean(sink, saved) {
+            return end_lines(put_end(after, listing, totals), listing);
+        }
+        fail(after, listing, clean);
+        say_cut(clean);
+    }
+
+    // Ends a saving that came to the end of the file.
+    fn end_all(self, listing: &mut Block, saved: &Block, damaged: &[u8], clean: &[u8]) {
+        if let Ended::Whole(totals) = self.end() {
+            return self.end_whole(totals, listing, saved, clean);
+        }
+        remark(damaged, b": kept and skipped bytes do not add up\n");
+        let listed = self.listed;
+        end_in_error(listed, listing, damaged);
+        say_cut(clean);
+    }
+
+    // Ends a saving, whatever stopped it.
+    fn finish(self, listing: &mut Block, saved: &Block, damaged: &[u8], clean: &[u8]) {
+        let listed = self.listed;
+        match self.fault() {
+            Fault::None => {
+                return self.end_all(listing, saved, damaged, clean);
+            }
+            Fault::Lines => end_lines(listed, listing),
+            Fault::Clean => fail(listed, listing, clean),
+            Fault::Damaged => fail(listed, listing, damaged),
+        }
+        let sink = self.clean;
+        sink.flush(saved);
+        say_cut(clean);
+    }
+}
+
+// Saves a file of which the first chunk is read, to one that is open.
+fn save_chunks(
+    first: Saving,
+    input: i32,
+    chunk: &mut Block,
+    listing: &mut Block,
+    damaged: &[u8],
+    clean: &[u8],
+) {
+    let mut room = [0u8; 65552];
+    let mut saved = io::large_buffer();
+    let mut begun = first;
+    let sink = begun.clean;
+    let versioned = sink.put(&mut saved, VERSION);
+    begun.clean = versioned;
+    let last = begun.take_all(input, chunk, &mut room, listing, &mut saved);
+    last.finish(listing, &saved, damaged, clean);
+}
+
+// Saves the damaged file to the clean one, where the first line is written.
+fn save_listed(listed: Sink, listing: &mut Block, damaged: &[u8], clean: &[u8]) {
+    let input = open_damaged(damaged);
+    if input < 0 {
+        return fail(listed, listing, damaged);
+    }
+    let mut chunk = io::large_buffer();
+    let got = libc::read(input, &mut chunk);
+    if got < 0 {
+        return fail(listed, listing, damaged);
+    }
+    let output = os::create(clean);
+    if output < 0 {
+        return fail(listed, listing, clean);
+    }
+    let first = Saving {
+        got,
+        salvage: Salvage::start(),
+        listed,
+        clean: Sink::to(output),
+        read: 0,
+        kept: 0,
+    };
+    save_chunks(first, input, &mut chunk, listing, damaged, clean);
+}
+
+// Saves the damaged file to the clean one. The first line goes out before a file is opened: where standard output is closed, one that is
+// opened would take its number, and with it the lines.
+pub(crate) fn save(damaged: &[u8], clean: &[u8]) {
+    let mut listing = io::large_buffer();
+    let sink = Sink::to(STDOUT_FILENO);
+    let titled = put_named(sink, &mut listing, b"# bussave ", damaged);
+    let listed = titled.flush(&listing);
+    if listed.failed {
+        return complain(b"standard output");
+    }
+    save_listed(listed, &mut listing, damaged, clean);
+}

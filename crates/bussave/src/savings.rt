@@ -1,0 +1,175 @@
+// The saving of a file: chunks of it go through the machine of `salvage`, its runs to the lines and its records to the clean file
+// (02 c). Refusals: none.
+use crate::outputs::put_run;
+use lines::Block;
+use lines::Sink;
+use salvage::Ended;
+use salvage::Salvage;
+use salvage::Totals;
+use std::num::wrapping_add_u64;
+
+// A chunk, and before it the bytes of a record that wait.
+pub(crate) type Room = [u8; 65552];
+
+const ROOM_BYTES: usize = 65552;
+
+// What goes from chunk to chunk: what the last read answered, the machine, where lines and records go, and how many bytes were read and kept.
+pub(crate) struct Saving {
+    pub(crate) got: isize,
+    pub(crate) salvage: Salvage,
+    pub(crate) listed: Sink,
+    pub(crate) clean: Sink,
+    pub(crate) read: u64,
+    pub(crate) kept: u64,
+}
+
+// Gives so many bytes of the room from a place on, none where it has not so many: then the bytes do not add up at the end.
+fn part(room: &[u8], from: usize, count: usize) -> &[u8] {
+    if from <= room.len() {
+        if count <= room.len() - from {
+            return &room[from..from + count];
+        }
+    }
+    &room[0..0]
+}
+
+// Gives the first so many bytes of a chunk. Taking a slice lets a part of it be lent on.
+fn front(chunk: &[u8], count: usize) -> &[u8] {
+    part(chunk, 0, count)
+}
+
+impl Saving {
+    // Says whether a write has failed. Nothing is done after it, so that errno still tells why.
+    fn has_failed(self) -> bool {
+        self.listed.failed | self.clean.failed
+    }
+
+    // Says whether there are bytes to settle.
+    fn is_unsettled(self) -> bool {
+        let salvage = self.salvage;
+        !salvage.is_settled() & !self.has_failed()
+    }
+
+    // Says whether there is a chunk to take.
+    fn is_reading(self) -> bool {
+        (self.got > 0) & !self.has_failed()
+    }
+
+    // "Kept and skipped bytes together must be all the bytes after the first."
+    fn adds_up(self, totals: Totals) -> bool {
+        let settled = wrapping_add_u64(self.kept, totals.skipped);
+        if self.read == 0 {
+            return settled == 0;
+        }
+        settled == self.read - 1
+    }
+
+    // Gives what the file came to. Where the bytes do not add up it is too early to say: no file is called saved that is not.
+    pub(crate) fn end(self) -> Ended {
+        let salvage = self.salvage;
+        let ended = salvage.end();
+        let Ended::Whole(totals) = ended else {
+            return Ended::Early;
+        };
+        if self.adds_up(totals) {
+            return ended;
+        }
+        Ended::Early
+    }
+
+    // The same saving with the machine fed.
+    fn with(self, salvage: Salvage) -> Saving {
+        let mut next = self;
+        next.salvage = salvage;
+        next
+    }
+
+    // Asks the machine once: lists the run that has ended, and writes the records behind it.
+    fn ask(self, room: &[u8], listing: &mut Block, saved: &mut Block) -> Saving {
+        let salvage = self.salvage;
+        let progress = salvage.ask(room);
+        let after = progress.salvage;
+        let run = progress.run;
+        let bytes = part(room, progress.from, progress.kept);
+        let listed = self.listed;
+        let clean = self.clean;
+        Saving {
+            got: self.got,
+            salvage: after,
+            listed: put_run(listed, listing, run),
+            clean: clean.put_text(saved, bytes),
+            read: self.read,
+            kept: wrapping_add_u64(self.kept, bytes.len() as u64),
+        }
+    }
+
+    // Asks until all is settled. The counter lets the loop be proved to end; it is not used up, as each question settles a byte or more.
+    fn settle(self, room: &Room, listing: &mut Block, saved: &mut Block) -> Saving {
+        let mut next = self;
+        let mut turns = ROOM_BYTES;
+        while turns > 0 && next.is_unsettled() {
+            next = next.ask(room, listing, saved);
+            turns -= 1;
+        }
+        next
+    }
+
+    // Takes the bytes of a chunk. A room that is full would take none; as it is settled before, it has place for a chunk.
+    fn take(self, bytes: &[u8], room: &mut Room, listing: &mut Block, saved: &mut Block) -> Saving {
+        let mut next = self;
+        let mut at = 0;
+        while at < bytes.len() {
+            let salvage = next.salvage;
+            let fed = salvage.feed(room, &bytes[at..]);
+            let taken = fed.taken;
+            if taken == 0 {
+                return next;
+            }
+            if taken > bytes.len() - at {
+                return next;
+            }
+            at += taken;
+            let after = fed.salvage;
+            next = next.with(after).settle(room, listing, saved);
+        }
+        next
+    }
+
+    // Takes the chunk that was read, and reads the next.
+    fn turn(
+        self,
+        input: i32,
+        chunk: &mut Block,
+        room: &mut Room,
+        listing: &mut Block,
+        saved: &mut Block,
+    ) -> Saving {
+        let count = io::count(self.got, chunk);
+        let mut next = self.take(front(chunk, count), room, listing, saved);
+        next.read = wrapping_add_u64(self.read, count as u64);
+        if next.has_failed() {
+            return next;
+        }
+        next.got = libc::read(input, chunk);
+        next
+    }
+
+    // Takes the file to its end, or up to what fails. A proved loop has to end, and nothing says that the file does: it counts down from
+    // a number that no run uses up.
+    pub(crate) fn take_all(
+        self,
+        input: i32,
+        chunk: &mut Block,
+        room: &mut Room,
+        listing: &mut Block,
+        saved: &mut Block,
+    ) -> Saving {
+        let mut next = self;
+        let mut turns = u64::MAX;
+        while turns > 0 && next.is_reading() {
+            next = next.turn(input, chunk, room, listing, saved);
+            turns -= 1;
+        }
+        next
+    }
+}

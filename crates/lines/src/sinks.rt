@@ -1,0 +1,145 @@
+// A sink: where the bytes go, and how many of them wait (01 Bench cards; 02 c). Any value of it is taken. Refusals: none.
+ghost use mathlib.Core.Path.{_≡_};
+ghost use Prim.Native.Nat.{_≤_, _+_};
+ghost use lib.ListN.{length};
+ghost use mathlib.Core.Bool.{true};
+
+// The bytes that wait, from the front on.
+pub type Block = [u8; 65536];
+
+const BLOCK_BYTES: usize = 65536;
+
+// "hexadecimal is written in capitals"
+const DIGITS: [u8; 16] = *b"0123456789ABCDEF";
+
+// Where bytes go, how many wait in the block, and whether a write has failed: then the others are dropped.
+pub struct Sink {
+    pub fd: i32,
+    pub at: usize,
+    pub failed: bool,
+}
+
+impl Sink {
+    // Gives a sink for an open file, with no byte waiting.
+    // Tables: none. Refusals: none.
+    pub fn to(fd: i32) -> Sink {
+        Sink {
+            fd,
+            at: 0,
+            failed: false,
+        }
+    }
+
+    // Writes bytes at once, with none waiting behind them. Nothing follows what failed, so that a file never has a hole.
+    fn write(self, bytes: &[u8]) -> Sink
+        ensures none { λ r. ⌜ r .at ≡ 0 ⌝ }
+        ensures stays { λ r. ⌜ (self .failed ≡ true → r .failed ≡ true) ⌝ }
+    {
+        let mut next = self;
+        next.at = 0;
+        if self.failed {
+            return next;
+        }
+        next.failed = !io::write_all(self.fd, bytes);
+        next
+    }
+
+    // Gives the sink with all that waited written.
+    // Tables: block is only read. Refusals: none; `failed` says whether a write has failed.
+    pub fn flush(self, block: &Block) -> Sink
+        ensures none { λ r. ⌜ r .at ≡ 0 ⌝ }
+        ensures stays { λ r. ⌜ (self .failed ≡ true → r .failed ≡ true) ⌝ }
+    {
+        self.write(front(block, self.at))
+    }
+
+    // Gives the sink with one byte more. A full block is written first.
+    // Tables: block holds the bytes that wait. Refusals: none; `failed` says whether a write has failed.
+    pub fn put(self, block: &mut Block, byte: u8) -> Sink
+        ensures stays { λ r. ⌜ (self .failed ≡ true → r .failed ≡ true) ⌝ }
+    {
+        let mut next = self;
+        let at = self.at;
+        if at < BLOCK_BYTES {
+            block[at] = byte;
+            next.at = at + 1;
+            return next;
+        }
+        next = self.flush(block);
+        block[0] = byte;
+        next.at = 1;
+        next
+    }
+
+    // Puts a text behind what waits, where it fits.
+    fn append(self, block: &mut Block, text: &[u8]) -> Sink
+        requires { ⌜ self .at + length (now text) ≤ 65536 ⌝ }
+        ensures stays { λ r. ⌜ (self .failed ≡ true → r .failed ≡ true) ⌝ }
+    {
+        copy_to(block, self.at, text);
+        let mut next = self;
+        next.at = self.at + text.len();
+        next
+    }
+
+    // Gives the sink with a text more. Where it does not fit behind what waits, that is written first; what fills a block goes out at once.
+    // Tables: block holds the bytes that wait; text is only read. Refusals: none; `failed` says whether a write has failed.
+    pub fn put_text(self, block: &mut Block, text: &[u8]) -> Sink
+        ensures stays { λ r. ⌜ (self .failed ≡ true → r .failed ≡ true) ⌝ }
+    {
+        if self.at <= BLOCK_BYTES {
+            if text.len() <= BLOCK_BYTES - self.at {
+                return self.append(block, text);
+            }
+        }
+        let flushed = self.flush(block);
+        if text.len() < BLOCK_BYTES {
+            return flushed.append(block, text);
+        }
+        flushed.write(text)
+    }
+
+    // Gives the sink with a number more, in decimal.
+    // Tables: block holds the bytes that wait. Refusals: none; `failed` says whether a write has failed.
+    pub fn put_decimal(self, block: &mut Block, number: u64) -> Sink
+        ensures stays { λ r. ⌜ (self .failed ≡ true → r .failed ≡ true) ⌝ }
+    {
+        let mut digits = [0u8; 20];
+        let count = io::decimal(number, &mut digits);
+        self.put_text(block, &digits[..count])
+    }
+
+    // Gives the sink with a word more, as four hexadecimal capitals.
+    // Tables: block holds the bytes that wait. Refusals: none; `failed` says whether a write has failed.
+    pub fn put_word(self, block: &mut Block, word: u16) -> Sink
+        ensures stays { λ r. ⌜ (self .failed ≡ true → r .failed ≡ true) ⌝ }
+    {
+        let digits = [
+            digit(word >> 12),
+            digit(word >> 8),
+            digit(word >> 4),
+            digit(word),
+        ];
+        self.put_text(block, &digits)
+    }
+}
+
+// Gives the first so many bytes, or all where there are fewer. Taking a slice lets a part of the block be lent on.
+fn front(block: &[u8], count: usize) -> &[u8] {
+    if count < block.len() {
+        return &block[0..count];
+    }
+    block
+}
+
+// Copies a text to a place of the block.
+fn copy_to(block: &mut [u8], at: usize, text: &[u8])
+    requires { ⌜ at + length (now text) ≤ length (now block) ⌝ }
+{
+    bytes::copy(text, &mut block[at..]);
+}
+
+// Gives the lowest four bits of a word as a digit.
+fn digit(word: u16) -> u8 {
+    DIGITS[(word % 16) as usize]
+}
