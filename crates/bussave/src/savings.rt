@@ -1,5 +1,10 @@
 // The saving of a file: chunks of it go through the machine of `salvage`, its runs to the lines and its records to the clean file
 // (02 c). Refusals: none.
+ghost use mathlib.Core.Bool.{true, false};
+ghost use mathlib.Core.Path.{_≡_};
+ghost use Prim.Native.Nat.{_≤_};
+ghost use lib.ListN.{length};
+ghost use Rattle.salvage.specs.Machine.{askedOf, isSettledOf};
 use crate::outputs::put_run;
 use lines::Block;
 use lines::Sink;
@@ -10,8 +15,6 @@ use std::num::wrapping_add_u64;
 
 // A chunk, and before it the bytes of a record that wait.
 pub(crate) type Room = [u8; 65552];
-
-const ROOM_BYTES: usize = 65552;
 
 // What goes from chunk to chunk: what the last read answered, the machine, where lines and records go, and how many bytes were read and kept.
 pub(crate) struct Saving {
@@ -45,7 +48,9 @@ impl Saving {
     }
 
     // Says whether there are bytes to settle.
-    fn is_unsettled(self) -> bool {
+    fn is_unsettled(self) -> bool
+        ensures unsettled { λ r. ⌜ (r ≡ true → isSettledOf (self .salvage) ≡ false) ⌝ }
+    {
         let salvage = self.salvage;
         !salvage.is_settled() & !self.has_failed()
     }
@@ -78,14 +83,18 @@ impl Saving {
     }
 
     // The same saving with the machine fed.
-    fn with(self, salvage: Salvage) -> Saving {
+    fn with(self, salvage: Salvage) -> Saving
+        ensures salvage { λ r. ⌜ r .salvage ≡ salvage ⌝ }
+    {
         let mut next = self;
         next.salvage = salvage;
         next
     }
 
     // Asks the machine once: lists the run that has ended, and writes the records behind it.
-    fn ask(self, room: &[u8], listing: &mut Block, saved: &mut Block) -> Saving {
+    fn ask(self, room: &[u8], listing: &mut Block, saved: &mut Block) -> Saving
+        ensures salvage { λ r. ⌜ r .salvage ≡ askedOf (self .salvage) (now (room .entry)) .salvage ⌝ }
+    {
         let salvage = self.salvage;
         let progress = salvage.ask(room);
         let after = progress.salvage;
@@ -103,13 +112,13 @@ impl Saving {
         }
     }
 
-    // Asks until all is settled. The counter lets the loop be proved to end; it is not used up, as each question settles a byte or more.
-    fn settle(self, room: &Room, listing: &mut Block, saved: &mut Block) -> Saving {
+    // Asks until all is settled. It ends since each question settles a byte or more (`goes-on`).
+    fn settle(self, room: &[u8], listing: &mut Block, saved: &mut Block) -> Saving
+        requires { ⌜ self .salvage .to ≤ length (now room) ⌝ }
+    {
         let mut next = self;
-        let mut turns = ROOM_BYTES;
-        while turns > 0 && next.is_unsettled() {
+        while next.is_unsettled() {
             next = next.ask(room, listing, saved);
-            turns -= 1;
         }
         next
     }
@@ -123,9 +132,6 @@ impl Saving {
             let fed = salvage.feed(room, &bytes[at..]);
             let taken = fed.taken;
             if taken == 0 {
-                return next;
-            }
-            if taken > bytes.len() - at {
                 return next;
             }
             at += taken;

@@ -399,7 +399,7 @@ begun-inside s room [] = gathered-inside s room [] Missing
 begun-inside s room (x ∷ more) = gathered-inside s room more (firstOf x)
 
 -- the waiting bytes stay inside the room, however many calls there are
-inside-fed : (s : Salvage) (room chunk : List ℕ) → fedOf s room chunk .salvage .to ≤ length (roomOf s room chunk)
+pub inside-fed : (s : Salvage) (room chunk : List ℕ) → fedOf s room chunk .salvage .to ≤ length (roomOf s room chunk)
 unfolding fedOf roomOf
 inside-fed s room chunk = by (s .first) chunk
   where
@@ -425,7 +425,7 @@ some-settled last (x ∷ w) l =
     subst (λ (k : Stretch). 0 < k .bytes + skippedFrom (k .last) (drop (k .bytes) (x ∷ w))) (sym (kept-skip last (x ∷ w) q))
     (omega (arith, skipped-one last x w l q)))
 
-asks-on : (s : Salvage) (room : List ℕ) → s .to ≤ length room → isSettledOf s ≡ false
+pub asks-on : (s : Salvage) (room : List ℕ) → s .to ≤ length room → isSettledOf s ≡ false
     → askedOf s room .salvage .to - askedOf s room .salvage .from < s .to - s .from
 unfolding askedOf isSettledOf
 asks-on s room l h =
@@ -445,6 +445,17 @@ feeds-on s room chunk h l some = by (s .first) chunk some
     by Missing (x ∷ more) some = omega arith
     by Kept chunk some = omega (arith, few)
     by Changed chunk some = omega (arith, few)
+
+-- no more is taken than is fed
+pub taken-few : (s : Salvage) (room chunk : List ℕ) → fedOf s room chunk .taken ≤ length chunk
+unfolding fedOf begunOf gatheredOf
+taken-few s room chunk = by (s .first) chunk
+  where
+    by : (f : First) (chunk : List ℕ) → fedBy f s room chunk .taken ≤ length chunk
+    by Missing [] = omega arith
+    by Missing (x ∷ more) = omega arith
+    by Kept chunk = omega arith
+    by Changed chunk = omega arith
 
 pub goes-on : GoesOn
 goes-on room calls =

@@ -1,16 +1,19 @@
--- `settle` is safe and ends: nothing has to hold from question to question, and the measure is the number of turns that are left. Assumes nothing.
+-- The loop's invariant: what waits stands inside the room. The measure is how many bytes wait. Assumes nothing.
+use Prim.Native.Nat.{_≤_, _-_}
+use lib.ListN.{length}
 use borrow.Author.Needs.{needs}
+use Rattle.bussave.proofs.Questions.{asked-less, asked-inside}
 use Rattle.bussave.proofs.savings.Saving.settle.Statement.{statement}
 use Rattle.bussave.proofs.savings.Saving.settle.Tie as tie
 
 abbrev Inv-loop : tie.InvT-loop
-Inv-loop room listing₀ saved₀ next₀ turns₀ listing saved next turns = Unit {0}
+Inv-loop room listing₀ saved₀ next₀ listing saved next = next .salvage .to ≤ length room
 
 abbrev μ-loop : tie.MeasureT-loop
-μ-loop room listing₀ saved₀ next₀ turns₀ listing saved next turns = turns
+μ-loop room listing₀ saved₀ next₀ listing saved next = next .salvage .to - next .salvage .from
 
 loop-holds : tie.Need-loop-holds Inv-loop μ-loop
-loop-holds c = tt
+loop-holds c = search needs
 
 is-unsettled-requires : tie.Need-is-unsettled-requires Inv-loop μ-loop
 is-unsettled-requires c κs = tt
@@ -18,20 +21,15 @@ is-unsettled-requires c κs = tt
 ask-requires : tie.Need-ask-requires Inv-loop μ-loop
 ask-requires c κs = tt
 
-sub-turns : tie.Need-sub-turns Inv-loop μ-loop
-sub-turns c = search needs
-
 loop-less : tie.Need-loop-less Inv-loop μ-loop
-loop-less c = search needs
+loop-less c =
+    asked-less _ _ _ (c .ask .ensures) (c .before .before .before .before .before .loop .inv) (c .before .before .before .before .is-unsettled .ensures (c .before .before .before .if1 .taken))
 
 loop-again : tie.Need-loop-again Inv-loop μ-loop
-loop-again c = tt
+loop-again c = asked-inside _ _ _ (c .ask .ensures) (c .before .before .before .before .before .loop .inv)
 
 returns : tie.Need-returns Inv-loop μ-loop
 returns c = tt
-
-returns-2 : tie.Need-returns-2 Inv-loop μ-loop
-returns-2 c = tt
 
 pub settle-spec : {M : Type 1} → statement M
 settle-spec =
@@ -42,8 +40,6 @@ settle-spec =
     loop-holds
     is-unsettled-requires
     ask-requires
-    sub-turns
     loop-less
     loop-again
-    returns
-    returns-2)
+    returns)

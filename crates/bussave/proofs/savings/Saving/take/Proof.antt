@@ -1,7 +1,9 @@
 -- `take` is safe and ends: each turn takes one byte or more and none past the end, and the measure is what is left of the bytes. Assumes nothing.
 use Prim.Native.Nat.{_≤_, _-_}
+use native.Mathlib.Omega.{arith}
 use lib.ListN.{length}
 use borrow.Author.Needs.{needs}
+use Rattle.bussave.proofs.Questions.{fed-inside, fed-few}
 use Rattle.bussave.proofs.savings.Saving.take.Statement.{statement}
 use Rattle.bussave.proofs.savings.Saving.take.Tie as tie
 
@@ -29,29 +31,23 @@ feed-requires c κs = tt
 returns : tie.Need-returns Inv-loop μ-loop
 returns c = tt
 
-sub-if2 : tie.Need-sub-if2 Inv-loop μ-loop
-sub-if2 c = search needs
-
-returns-2 : tie.Need-returns-2 Inv-loop μ-loop
-returns-2 c = tt
-
 add-at : tie.Need-add-at Inv-loop μ-loop
-add-at c = search needs
+add-at c = omega (arith, fed-few (c .before .before .before .before .before .before .loop .next .salvage) (c .before .before .before .before .before .before .loop .room) (c .before .before .before .before .before .before .before .before .args .bytes .now) (c .before .before .before .before .before .before .loop .at) (c .before .feed .result) (c .before .before .before .before .before .before .loop .inv) (c .before .feed .ensures .0))
 
 with-requires : tie.Need-with-requires Inv-loop μ-loop
 with-requires c κs = tt
 
 settle-requires : tie.Need-settle-requires Inv-loop μ-loop
-settle-requires c κs = tt
+settle-requires c κs = fed-inside _ _ _ _ (c .before .before .before .before .before .before .before .feed .result) _ (c .before .before .before .before .before .before .before .feed .ensures .0) (c .before .before .before .before .before .before .before .feed .ensures .1) (c .before .before .before .before .with .ensures)
 
 loop-less : tie.Need-loop-less Inv-loop μ-loop
-loop-less c = search needs
+loop-less c = omega (arith, c .before .before .before .before .before .before .before .if1 .left, c .before .before .before .before .before .before .before .before .before .before .before .before .loop-test .taken, fed-few (c .before .before .before .before .before .before .before .before .before .before .before .before .before .loop .next .salvage) (c .before .before .before .before .before .before .before .before .before .before .before .before .before .loop .room) (c .before .before .before .before .before .before .before .before .before .before .before .before .before .before .before .args .bytes .now) (c .before .before .before .before .before .before .before .before .before .before .before .before .before .loop .at) (c .before .before .before .before .before .before .before .before .feed .result) (c .before .before .before .before .before .before .before .before .before .before .before .before .before .loop .inv) (c .before .before .before .before .before .before .before .before .feed .ensures .0))
 
 loop-again : tie.Need-loop-again Inv-loop μ-loop
-loop-again c = search needs
+loop-again c = fed-few (c .before .before .before .before .before .before .before .before .before .before .before .before .before .loop .next .salvage) (c .before .before .before .before .before .before .before .before .before .before .before .before .before .loop .room) (c .before .before .before .before .before .before .before .before .before .before .before .before .before .before .before .args .bytes .now) (c .before .before .before .before .before .before .before .before .before .before .before .before .before .loop .at) (c .before .before .before .before .before .before .before .before .feed .result) (c .before .before .before .before .before .before .before .before .before .before .before .before .before .loop .inv) (c .before .before .before .before .before .before .before .before .feed .ensures .0)
 
-returns-3 : tie.Need-returns-3 Inv-loop μ-loop
-returns-3 c = tt
+returns-2 : tie.Need-returns-2 Inv-loop μ-loop
+returns-2 c = tt
 
 pub take-spec : {M : Type 1} → statement M
 take-spec =
@@ -65,11 +61,9 @@ take-spec =
     part-feed-end
     feed-requires
     returns
-    sub-if2
-    returns-2
     add-at
     with-requires
     settle-requires
     loop-less
     loop-again
-    returns-3)
+    returns-2)
