@@ -15,11 +15,15 @@ pub(crate) fn write_usage(fd: i32) {
     );
     io::write_all(
         fd,
-        b"It copies every whole record to CLEAN and lists the bytes that it skips; the last line is '# end ..' where all went well.\n",
+        b"It copies to CLEAN each record that is whole and in time: not earlier than the one before it, and at most 10 seconds after it.\n",
     );
     io::write_all(
         fd,
-        b"example: bussave flight07.rec flight07-clean.rec | grep '^skip'\n",
+        b"It lists the bytes that it skips. The last line is '# end ..' where all went well, and only then.\n",
+    );
+    io::write_all(
+        fd,
+        b"example: bussave flight07.rec flight07-clean.rec >flight07.lines; tail -n 1 flight07.lines\n",
     );
 }
 
@@ -48,4 +52,5 @@ pub(crate) fn complain(name: &[u8]) {
 pub(crate) fn remark(name: &[u8], what: &[u8]) {
     begin_complaint(name);
     io::write_all(STDERR_FILENO, what);
+    io::write_all(STDERR_FILENO, b"\n");
 }

@@ -19,7 +19,7 @@ use runs::save;
 // the longest name that the system opens
 const NAME_BYTES: usize = 4095;
 
-// Says whether the first argument asks for help. One that is longer than that does not.
+// Says whether the first argument asks for help. One that is longer than "--help" gives a length of 0, and asks for none.
 fn asks_help() -> bool {
     let mut text = [0u8; 6];
     let length = os::arg(1, &mut text);

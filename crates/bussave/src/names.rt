@@ -15,7 +15,7 @@ pub(crate) fn is_same(text: &[u8], wanted: &[u8]) -> bool {
     true
 }
 
-// Says whether a name stands for standard input or output.
+// Says whether a name is a dash alone.
 pub(crate) fn is_dash(name: &[u8]) -> bool {
     is_same(name, b"-")
 }

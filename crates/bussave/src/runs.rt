@@ -6,7 +6,10 @@ use crate::names::is_dash;
 use crate::outputs::put_end;
 use crate::outputs::put_named;
 use crate::outputs::put_run;
+use crate::savings::ROOM_BYTES;
 use crate::savings::Saving;
+use libc::SEEK_CUR;
+use libc::STDERR_FILENO;
 use libc::STDIN_FILENO;
 use libc::STDOUT_FILENO;
 use lines::Block;
@@ -24,6 +27,13 @@ enum Fault {
     Damaged,
 }
 
+// What closing the clean file shows: it is whole, it has not the bytes of the records that were kept, or the system refused.
+enum Closed {
+    Whole,
+    Short,
+    Failed,
+}
+
 // Opens the damaged file, "-" being standard input. A negative answer: it cannot be opened.
 fn open_damaged(name: &[u8]) -> i32 {
     if is_dash(name) {
@@ -32,8 +42,11 @@ fn open_damaged(name: &[u8]) -> i32 {
     os::open_read(name)
 }
 
-// Writes the lines that wait.
+// Writes the lines that wait. Where they failed before, that has been said.
 fn end_lines(listed: Sink, listing: &Block) {
+    if listed.failed {
+        return;
+    }
     if listed.flush(listing).failed {
         complain(b"standard output");
     }
@@ -50,21 +63,44 @@ fn fail(listed: Sink, listing: &mut Block, name: &[u8]) {
     end_in_error(listed, listing, name);
 }
 
-// Says that what is in the clean file is not all: it stays, as what it has is good.
+// Says that what is in the clean file is not all. It stays: what it has up to its last whole record is good.
 fn say_cut(clean: &[u8]) {
-    remark(clean, b": not whole\n");
+    remark(clean, b": not whole");
+}
+
+// Says whether a file of so many bytes has the version and so many records.
+fn is_size(bytes: u64, records: u64) -> bool {
+    if bytes == 0 {
+        return false;
+    }
+    let behind = bytes - 1;
+    (behind / 16 == records) & (behind % 16 == 0)
+}
+
+// Says whether a place, as the system gives it, is behind so many records.
+fn is_behind(place: i64, records: u64) -> bool {
+    if place > 0 {
+        return is_size(place as u64, records);
+    }
+    false
 }
 
 // Writes what waits for the clean file, and says whether all of it is on the disk.
-fn close_clean(clean: Sink, saved: &Block) -> bool {
+fn close_clean(clean: Sink, saved: &Block, records: u64) -> Closed {
     let after = clean.flush(saved);
     if after.failed {
-        return false;
+        return Closed::Failed;
+    }
+    if !is_behind(libc::lseek(after.fd, 0, SEEK_CUR), records) {
+        return Closed::Short;
     }
     if libc::fsync(after.fd) != 0 {
-        return false;
+        return Closed::Failed;
     }
-    libc::close(after.fd) == 0
+    if libc::close(after.fd) != 0 {
+        return Closed::Failed;
+    }
+    Closed::Whole
 }
 
 impl Saving {
@@ -85,21 +121,34 @@ impl Saving {
     fn end_whole(self, totals: Totals, listing: &mut Block, saved: &Block, clean: &[u8]) {
         let run = totals.run;
         let listed = self.listed;
-        let after = put_run(listed, listing, run);
-        let sink = self.clean;
-        if close_clean(sink, saved) {
-            return end_lines(put_end(after, listing, totals), listing);
+        let after = put_run(listed, listing, run).flush(listing);
+        if after.failed {
+            complain(b"standard output");
         }
-        fail(after, listing, clean);
+        let sink = self.clean;
+        match close_clean(sink, saved, totals.records) {
+            Closed::Whole => {
+                return end_lines(put_end(after, listing, totals), listing);
+            }
+            Closed::Short => remark(
+                clean,
+                b": its size is not that of the records that were kept",
+            ),
+            Closed::Failed => complain(clean),
+        }
+        end_in_error(after, listing, clean);
         say_cut(clean);
     }
 
-    // Ends a saving that came to the end of the file.
+    // Ends a saving that came to the end of the file. Each byte that was read must have been settled.
     fn end_all(self, listing: &mut Block, saved: &Block, damaged: &[u8], clean: &[u8]) {
-        if let Ended::Whole(totals) = self.end() {
-            return self.end_whole(totals, listing, saved, clean);
+        let salvage = self.salvage;
+        if let Ended::Whole(totals) = salvage.end() {
+            if totals.bytes == self.read {
+                return self.end_whole(totals, listing, saved, clean);
+            }
         }
-        remark(damaged, b": kept and skipped bytes do not add up\n");
+        remark(damaged, b": not every byte was settled");
         let listed = self.listed;
         end_in_error(listed, listing, damaged);
         say_cut(clean);
@@ -112,7 +161,7 @@ impl Saving {
             Fault::None => {
                 return self.end_all(listing, saved, damaged, clean);
             }
-            Fault::Lines => end_lines(listed, listing),
+            Fault::Lines => complain(b"standard output"),
             Fault::Clean => fail(listed, listing, clean),
             Fault::Damaged => fail(listed, listing, damaged),
         }
@@ -131,7 +180,7 @@ fn save_chunks(
     damaged: &[u8],
     clean: &[u8],
 ) {
-    let mut room = [0u8; 65552];
+    let mut room = [0u8; ROOM_BYTES];
     let mut saved = io::large_buffer();
     let mut begun = first;
     let sink = begun.clean;
@@ -139,6 +188,15 @@ fn save_chunks(
     begun.clean = versioned;
     let last = begun.take_all(input, chunk, &mut room, listing, &mut saved);
     last.finish(listing, &saved, damaged, clean);
+}
+
+// Keeps standard error's number from the clean file: where standard error is closed, the next file that is opened gets it, and with it what
+// is said of a failure. The other two numbers are in use, since something was read and a line was written.
+fn hold_errors() {
+    let held = os::open_read(b"/dev/null");
+    if held > STDERR_FILENO {
+        libc::close(held);
+    }
 }
 
 // Saves the damaged file to the clean one, where the first line is written.
@@ -152,6 +210,7 @@ fn save_listed(listed: Sink, listing: &mut Block, damaged: &[u8], clean: &[u8]) 
     if got < 0 {
         return fail(listed, listing, damaged);
     }
+    hold_errors();
     let output = os::create(clean);
     if output < 0 {
         return fail(listed, listing, clean);
@@ -162,7 +221,6 @@ fn save_listed(listed: Sink, listing: &mut Block, damaged: &[u8], clean: &[u8]) 
         listed,
         clean: Sink::to(output),
         read: 0,
-        kept: 0,
     };
     save_chunks(first, input, &mut chunk, listing, damaged, clean);
 }

@@ -8,25 +8,24 @@ ghost use Rattle.salvage.specs.Machine.{askedOf, isSettledOf};
 use crate::outputs::put_run;
 use lines::Block;
 use lines::Sink;
-use salvage::Ended;
 use salvage::Salvage;
-use salvage::Totals;
 use std::num::wrapping_add_u64;
 
 // A chunk, and before it the bytes of a record that wait.
-pub(crate) type Room = [u8; 65552];
+pub(crate) const ROOM_BYTES: usize = 65552;
 
-// What goes from chunk to chunk: what the last read answered, the machine, where lines and records go, and how many bytes were read and kept.
+pub(crate) type Room = [u8; ROOM_BYTES];
+
+// What goes from chunk to chunk: what the last read answered, the machine, where lines and records go, and how many bytes were read.
 pub(crate) struct Saving {
     pub(crate) got: isize,
     pub(crate) salvage: Salvage,
     pub(crate) listed: Sink,
     pub(crate) clean: Sink,
     pub(crate) read: u64,
-    pub(crate) kept: u64,
 }
 
-// Gives so many bytes of the room from a place on, none where it has not so many: then the bytes do not add up at the end.
+// Gives so many bytes of the room from a place on, none where it has not so many: then the clean file has not its size at the end.
 fn part(room: &[u8], from: usize, count: usize) -> &[u8] {
     if from <= room.len() {
         if count <= room.len() - from {
@@ -41,8 +40,16 @@ fn front(chunk: &[u8], count: usize) -> &[u8] {
     part(chunk, 0, count)
 }
 
+// Puts bytes, unless something has failed before.
+fn put_unless(failed: bool, sink: Sink, block: &mut Block, bytes: &[u8]) -> Sink {
+    if failed {
+        return sink;
+    }
+    sink.put_text(block, bytes)
+}
+
 impl Saving {
-    // Says whether a write has failed. Nothing is done after it, so that errno still tells why.
+    // Says whether a write has failed. Nothing is written after it, so that errno still tells why.
     fn has_failed(self) -> bool {
         self.listed.failed | self.clean.failed
     }
@@ -58,28 +65,6 @@ impl Saving {
     // Says whether there is a chunk to take.
     fn is_reading(self) -> bool {
         (self.got > 0) & !self.has_failed()
-    }
-
-    // "Kept and skipped bytes together must be all the bytes after the first."
-    fn adds_up(self, totals: Totals) -> bool {
-        let settled = wrapping_add_u64(self.kept, totals.skipped);
-        if self.read == 0 {
-            return settled == 0;
-        }
-        settled == self.read - 1
-    }
-
-    // Gives what the file came to. Where the bytes do not add up it is too early to say: no file is called saved that is not.
-    pub(crate) fn end(self) -> Ended {
-        let salvage = self.salvage;
-        let ended = salvage.end();
-        let Ended::Whole(totals) = ended else {
-            return Ended::Early;
-        };
-        if self.adds_up(totals) {
-            return ended;
-        }
-        Ended::Early
     }
 
     // The same saving with the machine fed.
@@ -102,13 +87,13 @@ impl Saving {
         let bytes = part(room, progress.from, progress.kept);
         let listed = self.listed;
         let clean = self.clean;
+        let after_run = put_run(listed, listing, run);
         Saving {
             got: self.got,
             salvage: after,
-            listed: put_run(listed, listing, run),
-            clean: clean.put_text(saved, bytes),
+            listed: after_run,
+            clean: put_unless(after_run.failed, clean, saved, bytes),
             read: self.read,
-            kept: wrapping_add_u64(self.kept, bytes.len() as u64),
         }
     }
 

@@ -13,22 +13,12 @@ part-requires c κs = search needs
 put-run-requires : tie.Need-put-run-requires
 put-run-requires c κs = search needs
 
-put-text-requires : tie.Need-put-text-requires
-put-text-requires c κs = search needs
-
-wrapping-add-u64-requires : tie.Need-wrapping-add-u64-requires
-wrapping-add-u64-requires c κs = search needs
+put-unless-requires : tie.Need-put-unless-requires
+put-unless-requires c κs = search needs
 
 returns : tie.Need-returns
-returns c = asked-salvage _ _ _ (c .before .before .before .before .before .before .before .before .before .before .before .ask .ensures)
+returns c = asked-salvage _ _ _ (c .before .before .before .before .before .before .before .before .before .before .ask .ensures)
 
 pub ask-spec : {M : Type 1} → statement M
 ask-spec =
-    tie.close
-    (tie.spec
-    ask-requires
-    part-requires
-    put-run-requires
-    put-text-requires
-    wrapping-add-u64-requires
-    returns)
+    tie.close (tie.spec ask-requires part-requires put-run-requires put-unless-requires returns)
