@@ -13,7 +13,7 @@ use Rattle.records.specs.declared.forms.WordRecord.{WordRecord}
 use Rattle.records.specs.declared.forms.Read.{Read}
 use Rattle.records.specs.declared.forms.Read.the-variants.{Record, Refused}
 use Rattle.salvage.specs.Pieces.{inTime, chosen, choiceOf, afterFirst}
-use Rattle.salvage.specs.Machine.{sum64, settledKept, settledSkipped, runEnded, gatheredOf, gatheredIn, firstOf, oneMore, begunOf, fedBy, fedOf, behindFirst, roomOf, isSettledOf, isChanged, sizeOf, totalsOf, endedOf}
+use Rattle.salvage.specs.Machine.{sum64, settledKept, settledSkipped, runEnded, gatheredOf, gatheredIn, firstOf, oneMore, begunOf, fedBy, fedOf, behindFirst, roomOf, isSettledOf, sizeOf, totalsOf, endedOf}
 use Rattle.salvage.specs.declared.choices.Last.{Last}
 use Rattle.salvage.specs.declared.choices.Choice.the-variants.{Keeps, Skips}
 use Rattle.salvage.specs.declared.stretches.Stretch.{Stretch}
@@ -114,59 +114,21 @@ module _ (s : Salvage) (room room′ chunk : List ℕ) (fed : Fed) where
     unfolding gatheredOf
     begun-fits first e = omega (arith, ap (λ (k : Fed). k .taken) e, length-take (length chunk - 1) (drop 1 chunk))
 
--- ---- feeding, by what the first byte is
+-- ---- by what the first byte is
 
-module _ (s : Salvage) (room room′ chunk : List ℕ) (fed : Fed) where
-  pub fed-first : s .first ≡ Missing → fed ≡ begunOf s room chunk → fed ≡ fedOf s room chunk
+module _ (s : Salvage) (room chunk : List ℕ) (f : First) (h : s .first ≡ f) where
+  pub fed-by : {fed : Fed} → fed ≡ fedBy f s room chunk → fed ≡ fedOf s room chunk
   unfolding fedOf
-  fed-first h e = e ∙ sym (ap (λ (first : First). fedBy first s room chunk) h)
+  fed-by e = e ∙ sym (ap (λ (x : First). fedBy x s room chunk) h)
 
-  pub fed-first-room : s .first ≡ Missing → room′ ≡ gatheredIn s room (afterFirst chunk) → room′ ≡ roomOf s room chunk
+  pub room-by : {room′ : List ℕ} → room′ ≡ gatheredIn s room (behindFirst f chunk) → room′ ≡ roomOf s room chunk
   unfolding roomOf
-  fed-first-room h e = e ∙ sym (ap (λ (first : First). gatheredIn s room (behindFirst first chunk)) h)
+  room-by e = e ∙ sym (ap (λ (x : First). gatheredIn s room (behindFirst x chunk)) h)
 
-  pub fed-kept : s .first ≡ Kept → fed ≡ gatheredOf s (s .first) room chunk → fed ≡ fedOf s room chunk
-  unfolding fedOf
-  fed-kept h e = e ∙ ap (λ (first : First). gatheredOf s first room chunk) h ∙ sym (ap (λ (first : First). fedBy first s room chunk) h)
-
-  pub fed-kept-room : s .first ≡ Kept → room′ ≡ gatheredIn s room chunk → room′ ≡ roomOf s room chunk
-  unfolding roomOf
-  fed-kept-room h e = e ∙ sym (ap (λ (first : First). gatheredIn s room (behindFirst first chunk)) h)
-
-  pub fed-changed : s .first ≡ Changed → fed ≡ gatheredOf s (s .first) room chunk → fed ≡ fedOf s room chunk
-  unfolding fedOf
-  fed-changed h e = e ∙ ap (λ (first : First). gatheredOf s first room chunk) h ∙ sym (ap (λ (first : First). fedBy first s room chunk) h)
-
-  pub fed-changed-room : s .first ≡ Changed → room′ ≡ gatheredIn s room chunk → room′ ≡ roomOf s room chunk
-  unfolding roomOf
-  fed-changed-room h e = e ∙ sym (ap (λ (first : First). gatheredIn s room (behindFirst first chunk)) h)
+pub size-by : (first : First) (run : Run) (n : ℕ) (f : First) → first ≡ f → n ≡ sizeOf f run → n ≡ sizeOf first run
+size-by first run n f h e = e ∙ sym (ap (λ (x : First). sizeOf x run) h)
 
 -- ---- the end
-
-pub changed-missing : (first : First) → first ≡ Missing → true ≡ isChanged first
-unfolding isChanged
-changed-missing first h = sym (ap isChanged h)
-
-pub changed-kept : (first : First) → first ≡ Kept → false ≡ isChanged first
-unfolding isChanged
-changed-kept first h = sym (ap isChanged h)
-
-pub changed-other : (first : First) → first ≡ Changed → true ≡ isChanged first
-unfolding isChanged
-changed-other first h = sym (ap isChanged h)
-
-pub size-none : (first : First) (run : Run) → first ≡ Missing → 0 ≡ sizeOf first run
-unfolding sizeOf
-size-none first run h = sym (ap (λ (f : First). sizeOf f run) h)
-
-module _ (first : First) (run : Run) (n : ℕ) (e : n ≡ sum64 (run .place) (run .length)) where
-  pub size-kept : first ≡ Kept → n ≡ sizeOf first run
-  unfolding sizeOf
-  size-kept h = e ∙ sym (ap (λ (f : First). sizeOf f run) h)
-
-  pub size-changed : first ≡ Changed → n ≡ sizeOf first run
-  unfolding sizeOf
-  size-changed h = e ∙ sym (ap (λ (f : First). sizeOf f run) h)
 
 pub totals : (s : Salvage) (after : Settled) (n bytes : ℕ) → n ≡ s .to - s .from → after ≡ settledSkipped (s .settled) n → bytes ≡ sizeOf (s .first) (after .run)
     → record { first = s .first; run = after .run; records = after .records; skipped = after .skipped; bytes = bytes } ≡ totalsOf s

@@ -245,8 +245,8 @@ impl Salvage {
         let first = self.first;
         match first {
             First::Missing => self.begin(room, chunk),
-            First::Kept => self.gather(first, room, chunk),
-            First::Changed => self.gather(first, room, chunk),
+            First::Kept => self.gather(First::Kept, room, chunk),
+            First::Changed => self.gather(First::Changed, room, chunk),
         }
     }
 

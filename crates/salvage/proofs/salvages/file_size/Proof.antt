@@ -1,5 +1,8 @@
 -- One law for each way out. Assumes nothing.
-use Rattle.salvage.proofs.Cases.{size-none, size-kept, size-changed}
+use mathlib.Core.Path.{refl}
+use Rattle.salvage.specs.Machine.{sizeOf}
+use Rattle.salvage.specs.declared.salvages.First.the-variants.{Missing, Kept, Changed}
+use Rattle.salvage.proofs.Cases.{size-by}
 use borrow.Author.Needs.{needs}
 use Rattle.salvage.proofs.salvages.file_size.Statement.{statement}
 use Rattle.salvage.proofs.salvages.file_size.Tie as tie
@@ -17,13 +20,16 @@ enum-told-3 : tie.Need-enum-told-3
 enum-told-3 c = search needs
 
 returns : tie.Need-returns
-returns c = search (size-none, needs)
+unfolding sizeOf
+returns c = size-by _ _ _ Missing (c .enum-told .given .1) refl
 
 returns-2 : tie.Need-returns-2
-returns-2 c = search (size-kept, needs)
+unfolding sizeOf
+returns-2 c = size-by _ _ _ Kept (c .enum-told2 .given .1) (c .before .before .wrapping-add-u64 .ensures)
 
 returns-3 : tie.Need-returns-3
-returns-3 c = search (size-changed, needs)
+unfolding sizeOf
+returns-3 c = size-by _ _ _ Changed (c .enum-told3 .given .1) (c .before .before .wrapping-add-u64 .ensures)
 
 pub file-size-spec : {M : Type 1} → statement M
 file-size-spec =

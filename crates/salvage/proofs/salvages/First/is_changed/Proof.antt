@@ -1,5 +1,6 @@
--- One law for each way out. Assumes nothing.
-use Rattle.salvage.proofs.Cases.{changed-missing, changed-kept, changed-other}
+-- By which it is. Assumes nothing.
+use mathlib.Core.Path.{sym, ap}
+use Rattle.salvage.specs.Machine.{isChanged}
 use borrow.Author.Needs.{needs}
 use Rattle.salvage.proofs.salvages.First.is_changed.Statement.{statement}
 use Rattle.salvage.proofs.salvages.First.is_changed.Tie as tie
@@ -14,13 +15,16 @@ enum-told-3 : tie.Need-enum-told-3
 enum-told-3 c = search needs
 
 returns : tie.Need-returns
-returns c = search (changed-missing, needs)
+unfolding isChanged
+returns c = sym (ap isChanged (c .enum-told .given .1))
 
 returns-2 : tie.Need-returns-2
-returns-2 c = search (changed-kept, needs)
+unfolding isChanged
+returns-2 c = sym (ap isChanged (c .enum-told2 .given .1))
 
 returns-3 : tie.Need-returns-3
-returns-3 c = search (changed-other, needs)
+unfolding isChanged
+returns-3 c = sym (ap isChanged (c .enum-told3 .given .1))
 
 pub is-changed-spec : {M : Type 1} → statement M
 is-changed-spec =

@@ -1,5 +1,6 @@
 -- One law for each way out, for the answer and for the room. Assumes nothing.
-use Rattle.salvage.proofs.Cases.{fed-first, fed-first-room, fed-kept, fed-kept-room, fed-changed, fed-changed-room}
+use Rattle.salvage.specs.declared.salvages.First.the-variants.{Missing, Kept, Changed}
+use Rattle.salvage.proofs.Cases.{fed-by, room-by}
 use borrow.Author.Needs.{needs}
 use Rattle.salvage.proofs.salvages.Salvage.feed.Statement.{statement}
 use Rattle.salvage.proofs.salvages.Salvage.feed.Tie as tie
@@ -26,19 +27,19 @@ same-length : tie.Need-same-length
 same-length c = search needs
 
 returns : tie.Need-returns
-returns c = search (fed-first, fed-first-room, needs)
+returns c = (fed-by _ _ _ Missing (c .before .before .before .before .enum-told .given .1) (c .before .before .begin .ensures .0), room-by _ _ _ Missing (c .before .before .before .before .enum-told .given .1) (c .before .before .begin .ensures .1))
 
 same-length-2 : tie.Need-same-length-2
 same-length-2 c = search needs
 
 returns-2 : tie.Need-returns-2
-returns-2 c = search (fed-kept, fed-kept-room, needs)
+returns-2 c = (fed-by _ _ _ Kept (c .before .before .before .before .enum-told2 .given .1) (c .before .before .gather .ensures .0), room-by _ _ _ Kept (c .before .before .before .before .enum-told2 .given .1) (c .before .before .gather .ensures .1))
 
 same-length-3 : tie.Need-same-length-3
 same-length-3 c = search needs
 
 returns-3 : tie.Need-returns-3
-returns-3 c = search (fed-changed, fed-changed-room, needs)
+returns-3 c = (fed-by _ _ _ Changed (c .before .before .before .before .enum-told3 .given .1) (c .before .before .gather2 .ensures .0), room-by _ _ _ Changed (c .before .before .before .before .enum-told3 .given .1) (c .before .before .gather2 .ensures .1))
 
 pub feed-spec : {M : Type 1} → statement M
 feed-spec =
