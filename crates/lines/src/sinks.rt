@@ -1,8 +1,10 @@
-// A sink: where the bytes go, and how many of them wait (01 Bench cards; 02 c). Any value of it is taken. Refusals: none.
+// A sink: where the bytes go, and how many of them wait (01 Bench cards; 02 c). Any value of it is taken. Meaning: specs/Sinks.antt. Refusals: none.
 ghost use mathlib.Core.Path.{_≡_};
-ghost use Prim.Native.Nat.{_≤_, _+_};
-ghost use lib.ListN.{length};
-ghost use mathlib.Core.Bool.{true};
+ghost use mathlib.Core.Bool.{true, false};
+ghost use mathlib.Core.List.{[], _∷_};
+ghost use Prim.Native.Nat.{_<_, _≤_, _+_, _%_};
+ghost use lib.ListN.{length, take};
+ghost use Rattle.lines.specs.Sinks.{blockBytes, fitsBehind, placeAfter, putAt, blockAfter, digitOf, wordText, decimalText};
 
 // The bytes that wait, from the front on.
 pub type Block = [u8; 65536];
@@ -22,7 +24,11 @@ pub struct Sink {
 impl Sink {
     // Gives a sink for an open file, with no byte waiting.
     // Tables: none. Refusals: none.
-    pub fn to(fd: i32) -> Sink {
+    pub fn to(fd: i32) -> Sink
+        ensures place { λ r. ⌜ r .at ≡ 0 ⌝ }
+        ensures file { λ r. ⌜ r .fd ≡ fd ⌝ }
+        ensures unfailed { λ r. ⌜ r .failed ≡ false ⌝ }
+    {
         Sink {
             fd,
             at: 0,
@@ -32,7 +38,8 @@ impl Sink {
 
     // Writes bytes at once, with none waiting behind them. Nothing follows what failed, so that a file never has a hole.
     fn write(self, bytes: &[u8]) -> Sink
-        ensures none { λ r. ⌜ r .at ≡ 0 ⌝ }
+        ensures place { λ r. ⌜ r .at ≡ 0 ⌝ }
+        ensures file { λ r. ⌜ r .fd ≡ self .fd ⌝ }
         ensures stays { λ r. ⌜ (self .failed ≡ true → r .failed ≡ true) ⌝ }
     {
         let mut next = self;
@@ -47,34 +54,41 @@ impl Sink {
     // Gives the sink with all that waited written.
     // Tables: block is only read. Refusals: none; `failed` says whether a write has failed.
     pub fn flush(self, block: &Block) -> Sink
-        ensures none { λ r. ⌜ r .at ≡ 0 ⌝ }
+        ensures place { λ r. ⌜ r .at ≡ 0 ⌝ }
+        ensures file { λ r. ⌜ r .fd ≡ self .fd ⌝ }
         ensures stays { λ r. ⌜ (self .failed ≡ true → r .failed ≡ true) ⌝ }
     {
         self.write(front(block, self.at))
     }
 
     // Gives the sink with one byte more. A full block is written first.
-    // Tables: block holds the bytes that wait. Refusals: none; `failed` says whether a write has failed.
+    // Tables: block holds what was put where it waits, and is else as before. Refusals: none; `failed` says whether a write has failed.
     pub fn put(self, block: &mut Block, byte: u8) -> Sink
+        ensures place { λ r. ⌜ r .at ≡ placeAfter (self .at) 1 ⌝ }
+        ensures file { λ r. ⌜ r .fd ≡ self .fd ⌝ }
+        ensures block { λ _. ⌜ now (block .exit) ≡ blockAfter (now (block .entry)) (self .at) (byte ∷ []) ⌝ }
         ensures stays { λ r. ⌜ (self .failed ≡ true → r .failed ≡ true) ⌝ }
     {
         let mut next = self;
         let at = self.at;
         if at < BLOCK_BYTES {
-            block[at] = byte;
+            store(block, at, byte);
             next.at = at + 1;
             return next;
         }
         next = self.flush(block);
-        block[0] = byte;
+        store(block, 0, byte);
         next.at = 1;
         next
     }
 
     // Puts a text behind what waits, where it fits.
     fn append(self, block: &mut Block, text: &[u8]) -> Sink
-        requires { ⌜ self .at + length (now text) ≤ 65536 ⌝ }
-        ensures stays { λ r. ⌜ (self .failed ≡ true → r .failed ≡ true) ⌝ }
+        requires { ⌜ self .at + length (now text) ≤ blockBytes ⌝ }
+        ensures place { λ r. ⌜ r .at ≡ self .at + length (now (text .entry)) ⌝ }
+        ensures file { λ r. ⌜ r .fd ≡ self .fd ⌝ }
+        ensures block { λ _. ⌜ now (block .exit) ≡ putAt (now (block .entry)) (self .at) (now (text .entry)) ⌝ }
+        ensures same { λ r. ⌜ r .failed ≡ self .failed ⌝ }
     {
         copy_to(block, self.at, text);
         let mut next = self;
@@ -82,15 +96,16 @@ impl Sink {
         next
     }
 
-    // Gives the sink with a text more. Where it does not fit behind what waits, that is written first; what fills a block goes out at once.
-    // Tables: block holds the bytes that wait; text is only read. Refusals: none; `failed` says whether a write has failed.
+    // Gives the sink with a text more. Where it does not fit behind what waits, that is written first, and a text of a block or more with it.
+    // Tables: block holds the text where it waits, and is else as before; text is only read. Refusals: none; `failed` says whether a write has failed.
     pub fn put_text(self, block: &mut Block, text: &[u8]) -> Sink
+        ensures place { λ r. ⌜ r .at ≡ placeAfter (self .at) (length (now (text .entry))) ⌝ }
+        ensures file { λ r. ⌜ r .fd ≡ self .fd ⌝ }
+        ensures block { λ _. ⌜ now (block .exit) ≡ blockAfter (now (block .entry)) (self .at) (now (text .entry)) ⌝ }
         ensures stays { λ r. ⌜ (self .failed ≡ true → r .failed ≡ true) ⌝ }
     {
-        if self.at <= BLOCK_BYTES {
-            if text.len() <= BLOCK_BYTES - self.at {
-                return self.append(block, text);
-            }
+        if fits(self.at, text.len()) {
+            return self.append(block, text);
         }
         let flushed = self.flush(block);
         if text.len() < BLOCK_BYTES {
@@ -100,8 +115,11 @@ impl Sink {
     }
 
     // Gives the sink with a number more, in decimal.
-    // Tables: block holds the bytes that wait. Refusals: none; `failed` says whether a write has failed.
+    // Tables: block holds what was put where it waits, and is else as before. Refusals: none; `failed` says whether a write has failed.
     pub fn put_decimal(self, block: &mut Block, number: u64) -> Sink
+        ensures place { λ r. ⌜ r .at ≡ placeAfter (self .at) (length (decimalText number)) ⌝ }
+        ensures file { λ r. ⌜ r .fd ≡ self .fd ⌝ }
+        ensures block { λ _. ⌜ now (block .exit) ≡ blockAfter (now (block .entry)) (self .at) (decimalText number) ⌝ }
         ensures stays { λ r. ⌜ (self .failed ≡ true → r .failed ≡ true) ⌝ }
     {
         let mut digits = [0u8; 20];
@@ -110,8 +128,11 @@ impl Sink {
     }
 
     // Gives the sink with a word more, as four hexadecimal capitals.
-    // Tables: block holds the bytes that wait. Refusals: none; `failed` says whether a write has failed.
+    // Tables: block holds what was put where it waits, and is else as before. Refusals: none; `failed` says whether a write has failed.
     pub fn put_word(self, block: &mut Block, word: u16) -> Sink
+        ensures place { λ r. ⌜ r .at ≡ placeAfter (self .at) 4 ⌝ }
+        ensures file { λ r. ⌜ r .fd ≡ self .fd ⌝ }
+        ensures block { λ _. ⌜ now (block .exit) ≡ blockAfter (now (block .entry)) (self .at) (wordText word) ⌝ }
         ensures stays { λ r. ⌜ (self .failed ≡ true → r .failed ≡ true) ⌝ }
     {
         let digits = [
@@ -124,22 +145,45 @@ impl Sink {
     }
 }
 
+// Says whether so many bytes fit behind those that wait.
+fn fits(at: usize, count: usize) -> bool
+    ensures fits { λ r. ⌜ r ≡ fitsBehind at count ⌝ }
+{
+    if at <= BLOCK_BYTES {
+        return count <= BLOCK_BYTES - at;
+    }
+    false
+}
+
 // Gives the first so many bytes, or all where there are fewer. Taking a slice lets a part of the block be lent on.
-fn front(block: &[u8], count: usize) -> &[u8] {
+fn front(block: &[u8], count: usize) -> &[u8]
+    ensures bytes { λ r. ⌜ now r ≡ take count (now (block .entry)) ⌝ }
+{
     if count < block.len() {
         return &block[0..count];
     }
     block
 }
 
+// Stores a byte at a place of the block.
+fn store(block: &mut [u8], at: usize, byte: u8)
+    requires { ⌜ at < length (now block) ⌝ }
+    ensures block { λ _. ⌜ now (block .exit) ≡ putAt (now (block .entry)) at (byte ∷ []) ⌝ }
+{
+    block[at] = byte;
+}
+
 // Copies a text to a place of the block.
 fn copy_to(block: &mut [u8], at: usize, text: &[u8])
     requires { ⌜ at + length (now text) ≤ length (now block) ⌝ }
+    ensures block { λ _. ⌜ now (block .exit) ≡ putAt (now (block .entry)) at (now (text .entry)) ⌝ }
 {
     bytes::copy(text, &mut block[at..]);
 }
 
 // Gives the lowest four bits of a word as a digit.
-fn digit(word: u16) -> u8 {
+fn digit(word: u16) -> u8
+    ensures digit { λ r. ⌜ r ≡ digitOf (word % 16) ⌝ }
+{
     DIGITS[(word % 16) as usize]
 }

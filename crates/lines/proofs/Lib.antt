@@ -1,0 +1,3 @@
+pub mod Waits
+pub mod Texts
+pub mod Losses

@@ -1,0 +1,35 @@
+-- What goes out and what waits, together. Assumes nothing.
+use Prim.Native.Nat.{ℕ, _+_, _≤_}
+use native.Mathlib.Nat.{zero-add}
+use native.Mathlib.Omega.{arith}
+use mathlib.Core.Path.{_≡_, sym, ap, _∙_}
+use mathlib.Core.Bool.{Bool, true, false, cond}
+use mathlib.Core.List.{List, [], _++_, append-nil}
+use lib.Dec.{ltb}
+use lib.ListN.{length, take, drop}
+use lib.Seq.{length-take-le, take-append-add, take-append-seam}
+use Rattle.lines.specs.Sinks.{blockBytes, fitsBehind, placeAfter, putAt, blockAfter, goesOut}
+use Rattle.lines.specs.Theorems.{NothingLost}
+
+-- a text that waits behind others
+behind : (block text : List ℕ) (at : ℕ) → at ≤ length block → take (at + length text) (putAt block at text) ≡ take at block ++ text
+behind block text at l =
+    let front : length (take at block) ≡ at = length-take-le at block l in
+    let rest = text ++ drop (at + length text) block in
+    ap (λ (k : ℕ). take k (take at block ++ rest)) {x = at + length text} {y = length (take at block) + length text} (omega (arith, front))
+    ∙ take-append-add (take at block) rest (length text)
+    ∙ ap (λ (k : List ℕ). take at block ++ k) (take-append-seam text (drop (at + length text) block))
+
+pub nothing-lost : NothingLost
+unfolding goesOut placeAfter blockAfter
+nothing-lost block text at size l = by (fitsBehind at (length text)) (ltb (length text) blockBytes)
+  where
+    by : (a b : Bool)
+        → cond a [] (cond b (take at block) (take at block ++ text))
+        ++ take (cond a (at + length text) (cond b (length text) 0)) (cond a (putAt block at text) (cond b (putAt block 0 text) block))
+        ≡ take at block ++ text
+    by true b = behind block text at (omega arith)
+    by false true =
+        ap (λ (k : List ℕ). take at block ++ k)
+        (ap (λ (k : ℕ). take k (putAt block 0 text)) (sym (zero-add (length text))) ∙ behind block text 0 (omega arith))
+    by false false = append-nil (take at block ++ text)

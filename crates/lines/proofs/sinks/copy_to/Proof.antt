@@ -1,0 +1,27 @@
+-- The law of the part of the block that is copied to. Assumes nothing.
+use borrow.Author.Needs.{needs}
+use Rattle.lines.proofs.Waits.{copied}
+use Rattle.lines.proofs.sinks.copy_to.Statement.{statement}
+use Rattle.lines.proofs.sinks.copy_to.Tie as tie
+
+sub-copy : tie.Need-sub-copy
+sub-copy c = search needs
+
+part-copy-start : tie.Need-part-copy-start
+part-copy-start c = search needs
+
+part-copy-end : tie.Need-part-copy-end
+part-copy-end c = search needs
+
+copy-requires : tie.Need-copy-requires
+copy-requires c κs = search needs
+
+same-length : tie.Need-same-length
+same-length c = search needs
+
+returns : tie.Need-returns
+returns c = search (copied, needs)
+
+pub copy-to-spec : {M : Type 1} → statement M
+copy-to-spec =
+    tie.close (tie.spec sub-copy part-copy-start part-copy-end copy-requires same-length returns)
