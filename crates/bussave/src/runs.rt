@@ -14,6 +14,7 @@ use libc::STDIN_FILENO;
 use libc::STDOUT_FILENO;
 use lines::Block;
 use lines::Sink;
+use records::RECORD_BYTES;
 use records::VERSION;
 use salvage::Ended;
 use salvage::Salvage;
@@ -69,18 +70,18 @@ fn say_cut(clean: &[u8]) {
 }
 
 // Says whether a file of so many bytes has the version and so many records.
-fn is_size(bytes: u64, records: u64) -> bool {
+fn is_size(bytes: usize, records: u64) -> bool {
     if bytes == 0 {
         return false;
     }
     let behind = bytes - 1;
-    (behind / 16 == records) & (behind % 16 == 0)
+    ((behind / RECORD_BYTES) as u64 == records) & (behind % RECORD_BYTES == 0)
 }
 
 // Says whether a place, as the system gives it, is behind so many records.
 fn is_behind(place: i64, records: u64) -> bool {
     if place > 0 {
-        return is_size(place as u64, records);
+        return is_size(place as usize, records);
     }
     false
 }

@@ -1,8 +1,8 @@
 // The machine: fed any chunk, asked for what is settled, ended (02 c). Meaning: specs/Machine.antt. Refusals: none.
 ghost use mathlib.Core.Path.{_≡_};
 ghost use Prim.Native.Nat.{_-_};
-ghost use Rattle.salvage.specs.Machine.{settledKept, settledSkipped, runEnded, firstOf, sizeOf, gatheredOf, gatheredIn, begunOf};
 ghost use Rattle.salvage.specs.Pieces.{afterFirst};
+ghost use Rattle.salvage.specs.Machine.{settledKept, settledSkipped, runEnded, firstOf, sizeOf, gatheredOf, gatheredIn, begunOf};
 ghost use Rattle.salvage.specs.Machine.{startOf, fedOf, roomOf, askedOf, isSettledOf, isChanged, totalsOf, endedOf};
 use crate::choices::Last;
 use crate::rooms::fill;
