@@ -119,12 +119,17 @@ static inline void keep(saving *s, const uint8_t *bytes, uint64_t time)
     s->run = s->place + PLAIN_RECORD;
 }
 
-/* The next place where a record may begin, one byte before the next 14: memchr passes over many bytes at once. Where there
- * is none, the first place with fewer than 16 bytes left. */
+/* The next place where a record may begin: the next byte. With -DLEAPS it is one byte before the next 14, since memchr passes
+ * over many bytes at once; where there is none, the first place with fewer than 16 bytes left. */
 static inline size_t next_place(const uint8_t *bytes, size_t at, size_t n)
 {
+#ifdef LEAPS
     const uint8_t *length = memchr(bytes + at + 2, 14, n - at - PLAIN_RECORD);
     return length ? (size_t)(length - bytes) - 1 : n - PLAIN_RECORD + 1;
+#else
+    (void)bytes, (void)n;
+    return at + 1;
+#endif
 }
 
 /* Walks until fewer than 16 bytes are left, and gives how many it walked. */
