@@ -44,18 +44,22 @@ fn open_damaged(name: &[u8]) -> i32 {
 }
 
 // Writes the lines that wait. Where they failed before, that has been said.
-fn end_lines(listed: Sink, listing: &Block) {
+fn flush_lines(listed: Sink, listing: &Block) -> Sink {
     if listed.failed {
-        return;
+        return listed;
     }
-    if listed.flush(listing).failed {
+    let after = listed.flush(listing);
+    if after.failed {
         complain(b"standard output");
     }
+    after
 }
 
-// Ends the lines by the name of the file that failed.
+// Ends the lines by the name of the file that failed. Those that wait go out first, so that a failure of theirs is seen.
 fn end_in_error(listed: Sink, listing: &mut Block, name: &[u8]) {
-    end_lines(put_named(listed, listing, b"# error ", name), listing);
+    let flushed = flush_lines(listed, listing);
+    let ended = put_named(flushed, listing, b"# error ", name);
+    flush_lines(ended, listing);
 }
 
 // Says what failed just now, and ends the lines by its name.
@@ -129,7 +133,9 @@ impl Saving {
         let sink = self.clean;
         match close_clean(sink, saved, totals.records) {
             Closed::Whole => {
-                return end_lines(put_end(after, listing, totals), listing);
+                let ended = put_end(after, listing, totals);
+                flush_lines(ended, listing);
+                return;
             }
             Closed::Short => remark(
                 clean,
@@ -152,6 +158,8 @@ impl Saving {
         remark(damaged, b": not every byte was settled");
         let listed = self.listed;
         end_in_error(listed, listing, damaged);
+        let sink = self.clean;
+        sink.flush(saved);
         say_cut(clean);
     }
 

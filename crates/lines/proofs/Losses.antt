@@ -2,11 +2,12 @@
 use Prim.Native.Nat.{ℕ, _+_, _≤_}
 use native.Mathlib.Nat.{zero-add}
 use native.Mathlib.Omega.{arith}
-use mathlib.Core.Path.{_≡_, sym, ap, _∙_}
+use mathlib.Core.Path.{_≡_, refl, sym, ap, _∙_}
 use mathlib.Core.Bool.{Bool, true, false, cond}
 use mathlib.Core.List.{List, [], _++_, append-nil}
 use lib.Dec.{ltb}
 use lib.ListN.{length, take, drop}
+use borrow.Author.Tests.{leb-true}
 use lib.Seq.{length-take-le, take-append-add, take-append-seam}
 use Rattle.lines.specs.Sinks.{blockBytes, fitsBehind, placeAfter, putAt, blockAfter, goesOut}
 use Rattle.lines.specs.Theorems.{NothingLost}
@@ -21,15 +22,15 @@ behind block text at l =
     ∙ ap (λ (k : List ℕ). take at block ++ k) (take-append-seam text (drop (at + length text) block))
 
 pub nothing-lost : NothingLost
-unfolding goesOut placeAfter blockAfter
-nothing-lost block text at size l = by (fitsBehind at (length text)) (ltb (length text) blockBytes)
+unfolding goesOut placeAfter blockAfter fitsBehind
+nothing-lost block text at size = by (fitsBehind at (length text)) (ltb (length text) blockBytes) refl
   where
-    by : (a b : Bool)
+    by : (a b : Bool) → fitsBehind at (length text) ≡ a
         → cond a [] (cond b (take at block) (take at block ++ text))
         ++ take (cond a (at + length text) (cond b (length text) 0)) (cond a (putAt block at text) (cond b (putAt block 0 text) block))
         ≡ take at block ++ text
-    by true b = behind block text at (omega arith)
-    by false true =
+    by true b e = behind block text at (omega (arith, size, leb-true (at + length text) blockBytes e))
+    by false true e =
         ap (λ (k : List ℕ). take at block ++ k)
         (ap (λ (k : ℕ). take k (putAt block 0 text)) (sym (zero-add (length text))) ∙ behind block text 0 (omega arith))
-    by false false = append-nil (take at block ++ text)
+    by false false e = append-nil (take at block ++ text)

@@ -29,7 +29,7 @@ unfoldable pub blockAfter : List ℕ → ℕ → List ℕ → List ℕ
 blockAfter block at text =
     cond (fitsBehind at (length text)) (putAt block at text) (cond (ltb (length text) blockBytes) (putAt block 0 text) block)
 
--- What goes out with a text, in this order.
+-- What goes out with a text, in this order, where no write fails. No contract can say it: that the code writes this is to be read there.
 unfoldable pub goesOut : List ℕ → ℕ → List ℕ → List ℕ
 goesOut block at text = cond (fitsBehind at (length text)) [] (cond (ltb (length text) blockBytes) (take at block) (take at block ++ text))
 

@@ -19,7 +19,7 @@ use Rattle.records.specs.declared.files.Opened.the-variants as opened
 use Rattle.records.proofs.Theorems.{read-good, read-front}
 use Rattle.records.proofs.Walks.{walk-none, walk-some}
 use Rattle.salvage.specs.Pieces.{inTime, chosen, choiceOf, Piece, kept, piecesFrom, afterFirst, piecesOf, keptBytes, cleanOf, runsFrom, runsOf, changedOf}
-use Rattle.salvage.specs.Theorems.{InOrder, keptRecords, SavedReads, Unchanged, WholeFileKept, SavedAgain, EmptyFile}
+use Rattle.salvage.specs.Theorems.{InTime, InOrder, keptRecords, SavedReads, Unchanged, WholeFileKept, SavedAgain, EmptyFile}
 use Rattle.salvage.specs.declared.choices.Last.{Last}
 use Rattle.salvage.specs.declared.choices.Last.the-variants.{Nothing, At}
 use Rattle.salvage.specs.declared.choices.Choice.the-variants.{Keeps, Skips}
@@ -29,21 +29,15 @@ use Rattle.salvage.proofs.Fronts.{never, choice-long, by-choice, pieces
 -- ---- what is kept reads
 
 -- what a choice to keep shows
-record Found (last : Last) (s : List ℕ) (t : Moment) : Type 0 where
-  r : WordRecord
-  read : readOf s ≡ Record r
-  time : r .time ≡ t
-  in-time : inTime last (r .time .0) ≡ true
-
-found : (last : Last) (s : List ℕ) (t : Moment) → choiceOf last s ≡ Keeps t → Found last s t
+pub found : (last : Last) (s : List ℕ) (t : Moment) → choiceOf last s ≡ Keeps t → InTime last s t
 unfolding choiceOf
 found last s t q = by (readOf s) refl q
   where
-    kept-by : (r : WordRecord) (b : Bool) → readOf s ≡ Record r → inTime last (r .time .0) ≡ b → cond b (Keeps (r .time)) Skips ≡ Keeps t → Found last s t
-    kept-by r true e h k = record { r = r; read = e; time = cc; in-time = h }
+    kept-by : (r : WordRecord) (b : Bool) → readOf s ≡ Record r → inTime last (r .time .0) ≡ b → cond b (Keeps (r .time)) Skips ≡ Keeps t → InTime last s t
+    kept-by r true e h k = record { r = r; reads = e; timed = cc; in-time = h }
     kept-by r false e h k = absurd (never t k)
 
-    by : (g : Read) → readOf s ≡ g → chosen last g ≡ Keeps t → Found last s t
+    by : (g : Read) → readOf s ≡ g → chosen last g ≡ Keeps t → InTime last s t
     by (Record r) e k = kept-by r (inTime last (r .time .0)) e refl k
     by (Refused n) e k = absurd (never t k)
 
@@ -57,13 +51,13 @@ record Reads (last : Last) (ps : List Piece) : Type 0 where
   walk : (n : ℕ) → length (keptBytes ps) ≤ n → walkFrom n (keptBytes ps) ≡ whole (keptRecords ps)
   order : InOrder last (keptRecords ps)
 
-reads-kept : (last : Last) (s : List ℕ) (t : Moment) (ps : List Piece) → Found last s t → 16 ≤ length s → Reads (At t) ps → Reads last (kept (take 16 s) ∷ ps)
+reads-kept : (last : Last) (s : List ℕ) (t : Moment) (ps : List Piece) → InTime last s t → 16 ≤ length s → Reads (At t) ps → Reads last (kept (take 16 s) ∷ ps)
 reads-kept last s t ps f l rest =
     let front = take 16 s in
     let sixteen : length front ≡ 16 = length-take-le 16 s l in
-    let read : (more : List ℕ) → readOf (front ++ more) ≡ Record (f .r) = λ more. front-read s more l ∙ f .read in
+    let read : (more : List ℕ) → readOf (front ++ more) ≡ Record (f .r) = λ more. front-read s more l ∙ f .reads in
     let record-is : recordAt front ≡ f .r = read-good front (f .r) (ap readOf (sym (append-nil front)) ∙ read []) .same in
-    let time-is : recordAt front .time ≡ t = ap (λ (r : WordRecord). r .time) record-is ∙ f .time in
+    let time-is : recordAt front .time ≡ t = ap (λ (r : WordRecord). r .time) record-is ∙ f .timed in
     record {
       walk = walk-on front (keptBytes ps) (keptRecords ps) (f .r) (recordAt front) sixteen (read (keptBytes ps)) record-is (rest .walk);
       order = (

@@ -5,14 +5,15 @@ use Prim.Native.Nat.{ℕ, zero, suc, _+_, _-_, _*_, _≤_}
 use native.Mathlib.Nat.{zero-add}
 use native.Mathlib.Omega.{arith}
 use mathlib.Core.List.{List, [], _∷_, _++_, append-assoc}
-use lib.ListN.{length, take, drop, replicate, length-append, length-drop, take-append-drop, replicate-append-replicate}
+use lib.ListN.{length, take, drop, replicate, length-append, length-drop, take-append-drop, replicate-append-replicate, length-replicate}
 use lib.Seq.{length-take-le}
 use Rattle.salvage.specs.Pieces.{Piece, kept, skipped, piecesFrom, piecesOf, afterFirst, listed, runsFrom, runsOf, recordsIn, skippedIn}
-use Rattle.salvage.specs.Theorems.{EachPlace, joined, flags, marks, inRuns, AllBytes, Apart, RunsLongest}
+use Rattle.salvage.specs.Theorems.{EachPlace, joined, flags, marks, Sixteen, inRuns, AllBytes, Apart, RunsLongest}
 use Rattle.salvage.specs.declared.choices.Last.{Last}
 use Rattle.salvage.specs.declared.choices.Last.the-variants.{Nothing, At}
 use Rattle.salvage.specs.declared.salvages.Run.{Run}
 use Rattle.salvage.proofs.Cases.{choice-kept}
+use Rattle.salvage.proofs.Cleans.{found}
 use Rattle.salvage.proofs.Fronts.{choice-long, by-choice, pieces-keep, pieces-skip}
 
 -- ---- the walk
@@ -21,6 +22,7 @@ pub each-place : EachPlace
 unfolding piecesFrom
 each-place = record {
   every = λ last bytes r e h. sym (choice-kept last bytes _ (sym e) r true refl (sym h) refl);
+  only = found;
   keeps = pieces-keep;
   skips = pieces-skip;
   ends = λ last. refl;
@@ -33,6 +35,7 @@ record Covers (s : List ℕ) (ps : List Piece) : Type 0 where
   bytes : joined ps ≡ s
   counts : 16 * recordsIn ps + skippedIn ps ≡ length (joined ps)
   flagged : length (flags ps) ≡ length (joined ps)
+  sixteen : Sixteen ps
 
 covers-kept : (s : List ℕ) (ps : List Piece) → 16 ≤ length s → Covers (drop 16 s) ps → Covers s (kept (take 16 s) ∷ ps)
 covers-kept s ps l rest =
@@ -40,14 +43,22 @@ covers-kept s ps l rest =
     record {
       bytes = ap (λ (k : List ℕ). take 16 s ++ k) (rest .bytes) ∙ take-append-drop 16 s;
       counts = omega (arith, rest .counts, front, length-append (take 16 s) (joined ps));
-      flagged = omega (arith, rest .flagged, front, length-append (take 16 s) (joined ps), length-append (replicate 16 false) (flags ps));
+      flagged =
+          omega (
+            arith,
+            rest .flagged,
+            length-append (take 16 s) (joined ps),
+            length-append (replicate (length (take 16 s)) false) (flags ps),
+            length-replicate (length (take 16 s)) false,
+          );
+      sixteen = (front, rest .sixteen);
     }
 
 covers-by : (fuel : ℕ) (last : Last) (s : List ℕ) → length s ≤ fuel → Covers s (piecesFrom 0 last s)
 unfolding piecesFrom
-covers-by zero last [] l = record { bytes = refl; counts = refl; flagged = refl }
+covers-by zero last [] l = record { bytes = refl; counts = refl; flagged = refl; sixteen = tt }
 covers-by zero last (x ∷ s) l = absurd (omega arith)
-covers-by (suc fuel) last [] l = record { bytes = refl; counts = refl; flagged = refl }
+covers-by (suc fuel) last [] l = record { bytes = refl; counts = refl; flagged = refl; sixteen = tt }
 covers-by (suc fuel) last (x ∷ s) l =
     by-choice last (x ∷ s) (Covers (x ∷ s) (piecesFrom 0 last (x ∷ s)))
     (λ t q.
@@ -61,6 +72,7 @@ covers-by (suc fuel) last (x ∷ s) l =
       bytes = ap (λ (k : List ℕ). x ∷ k) (rest .bytes);
       counts = omega (arith, rest .counts);
       flagged = omega (arith, rest .flagged);
+      sixteen = rest .sixteen;
     }))
 
 -- ---- the runs
@@ -115,23 +127,31 @@ marks-skipped : (n : ℕ) (fs : List Bool) → replicate (n + 1) true ++ fs ≡ 
 marks-skipped n fs =
     ap (λ (k : List Bool). k ++ fs) (sym (replicate-append-replicate n 1 true)) ∙ append-assoc (replicate n true) (true ∷ []) fs
 
-marks-all : (ps : List Piece) (place before : ℕ) → marks place (runsFrom place before ps) (before + length (flags ps)) ≡ replicate before true ++ flags ps
-marks-all [] place zero = refl
-marks-all [] place (suc n) = marks-run place (suc n) 0 []
-marks-all (kept bytes ∷ ps) place zero =
-    let count : 0 + length (flags (kept bytes ∷ ps)) ≡ 16 + length (flags ps) = omega arith in
+-- the flags of a record
+flags-kept : (bytes : List ℕ) (fs : List Bool) → length bytes ≡ 16 → replicate (length bytes) false ++ fs ≡ replicate 16 false ++ fs
+flags-kept bytes fs h = ap (λ (n : ℕ). replicate n false ++ fs) h
+
+marks-all : (ps : List Piece) (place before : ℕ) → Sixteen ps → marks place (runsFrom place before ps) (before + length (flags ps)) ≡ replicate before true ++ flags ps
+marks-all [] place zero h = refl
+marks-all [] place (suc n) h = marks-run place (suc n) 0 []
+marks-all (kept bytes ∷ ps) place zero h =
+    let count : 0 + length (flags (kept bytes ∷ ps)) ≡ 16 + length (flags ps) =
+    ap (λ (fs : List Bool). 0 + length fs) (flags-kept bytes (flags ps) (h .0)) ∙ omega arith in
     ap (marks place (runsFrom (place + 0 + 16) 0 ps)) count
-    ∙ marks-kept place (place + 0 + 16) ps (omega arith) (marks-all ps (place + 0 + 16) 0)
-marks-all (kept bytes ∷ ps) place (suc n) =
-    let count : suc n + length (flags (kept bytes ∷ ps)) ≡ suc n + (16 + length (flags ps)) = omega arith in
+    ∙ marks-kept place (place + 0 + 16) ps (omega arith) (marks-all ps (place + 0 + 16) 0 (h .1))
+    ∙ sym (flags-kept bytes (flags ps) (h .0))
+marks-all (kept bytes ∷ ps) place (suc n) h =
+    let count : suc n + length (flags (kept bytes ∷ ps)) ≡ suc n + (16 + length (flags ps)) =
+    ap (λ (fs : List Bool). suc n + length fs) (flags-kept bytes (flags ps) (h .0)) ∙ omega arith in
     let rest = runsFrom (place + suc n + 16) 0 ps in
     ap (marks place (record { place = place; length = suc n } ∷ rest)) count
     ∙ marks-run place (suc n) (16 + length (flags ps)) rest
     ∙ ap (λ (k : List Bool). replicate (suc n) true ++ k)
-    (marks-kept (place + suc n) (place + suc n + 16) ps refl (marks-all ps (place + suc n + 16) 0))
-marks-all (skipped byte ∷ ps) place before =
+    (marks-kept (place + suc n) (place + suc n + 16) ps refl (marks-all ps (place + suc n + 16) 0 (h .1))
+    ∙ sym (flags-kept bytes (flags ps) (h .0)))
+marks-all (skipped byte ∷ ps) place before h =
     let count : before + suc (length (flags ps)) ≡ before + 1 + length (flags ps) = omega arith in
-    ap (marks place (runsFrom place (before + 1) ps)) count ∙ marks-all ps place (before + 1) ∙ marks-skipped before (flags ps)
+    ap (marks place (runsFrom place (before + 1) ps)) count ∙ marks-all ps place (before + 1) h ∙ marks-skipped before (flags ps)
 
 pub all-bytes : AllBytes
 unfolding runsOf piecesOf
@@ -142,7 +162,8 @@ all-bytes file =
     let size : length (joined ps) ≡ length s = ap length (covers .bytes) in
     record {
       every-byte = covers .bytes;
-      as-listed = ap (marks 1 (runsFrom 1 0 ps)) {x = length s} {y = 0 + length (flags ps)} (omega (arith, size, covers .flagged)) ∙ marks-all ps 1 0;
+      sixteen = covers .sixteen;
+      as-listed = ap (marks 1 (runsFrom 1 0 ps)) {x = length s} {y = 0 + length (flags ps)} (omega (arith, size, covers .flagged)) ∙ marks-all ps 1 0 (covers .sixteen);
       adds-up = covers .counts ∙ size;
       runs-add-up = runs-sum ps 1 0 ∙ zero-add (skippedIn ps);
     }

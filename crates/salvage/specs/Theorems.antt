@@ -21,10 +21,18 @@ use Rattle.salvage.specs.declared.salvages.Ended.the-variants.{Whole}
 
 -- ---- the walk
 
--- At each place the bytes from there on decide. Where 16 read as a record in time they are kept, and the walk goes on behind them; else one is
--- skipped: each-place
+-- The bytes read as a record of that time, and it is in time.
+pub record InTime (last : Last) (bytes : List ℕ) (time : Moment) : Type 0 where
+  pub r : WordRecord
+  pub reads : readOf bytes ≡ Record r
+  pub timed : r .time ≡ time
+  pub in-time : inTime last (r .time .0) ≡ true
+
+-- At each place the bytes from there on decide. Where 16 read as a record in time, and only there, they are kept, and the walk goes on behind them;
+-- else one is skipped: each-place
 pub record EachPlace : Type 0 where
   pub every : (last : Last) (bytes : List ℕ) (r : WordRecord) → readOf bytes ≡ Record r → inTime last (r .time .0) ≡ true → choiceOf last bytes ≡ Keeps (r .time)
+  pub only : (last : Last) (bytes : List ℕ) (time : Moment) → choiceOf last bytes ≡ Keeps time → InTime last bytes time
   pub keeps : (last : Last) (bytes : List ℕ) (time : Moment) → choiceOf last bytes ≡ Keeps time
       → piecesFrom 0 last bytes ≡ kept (take recordBytes bytes) ∷ piecesFrom 0 (At time) (drop recordBytes bytes)
   pub skips : (last : Last) (byte : ℕ) (rest : List ℕ) → choiceOf last (byte ∷ rest) ≡ Skips → piecesFrom 0 last (byte ∷ rest) ≡ skipped byte ∷ piecesFrom 0 last rest
@@ -76,7 +84,7 @@ joined (skipped byte ∷ pieces) = byte ∷ joined pieces
 -- Whether each byte is skipped, by the pieces.
 abbrev pub flags : List Piece → List Bool
 flags [] = []
-flags (kept bytes ∷ pieces) = replicate recordBytes false ++ flags pieces
+flags (kept bytes ∷ pieces) = replicate (length bytes) false ++ flags pieces
 flags (skipped byte ∷ pieces) = true ∷ flags pieces
 
 -- Whether each of `count` bytes from a place on is in a run, by the list of runs.
@@ -86,6 +94,13 @@ marks place (run ∷ runs) count =
     replicate (run .place - place) false
     ++ (replicate (run .length) true ++ marks (run .place + run .length) runs (count - (run .place + run .length - place)))
 
+-- Each kept piece has the 16 bytes of a record.
+abbrev pub Sixteen : List Piece → Type 0
+Sixteen [] = Unit {0}
+Sixteen (kept bytes ∷ pieces) = (length bytes ≡ recordBytes) × Sixteen pieces
+Sixteen (skipped byte ∷ pieces) = Sixteen pieces
+
+-- The bytes of all runs.
 abbrev pub inRuns : List Run → ℕ
 inRuns [] = 0
 inRuns (run ∷ runs) = run .length + inRuns runs
@@ -94,6 +109,7 @@ inRuns (run ∷ runs) = run .length + inRuns runs
 -- all-bytes
 pub record Together (file : List ℕ) : Type 0 where
   pub every-byte : joined (piecesOf file) ≡ afterFirst file
+  pub sixteen : Sixteen (piecesOf file)
   pub as-listed : marks 1 (runsOf file) (length (afterFirst file)) ≡ flags (piecesOf file)
   pub adds-up : recordBytes * recordsIn (piecesOf file) + skippedIn (piecesOf file) ≡ length (afterFirst file)
   pub runs-add-up : inRuns (runsOf file) ≡ skippedIn (piecesOf file)
@@ -167,8 +183,8 @@ ChunksDoNotMatter =
     (room : List ℕ) (calls : List Call) (t : Totals) → length (after (begun room) calls .taken) < 2 ^ 64
     → endedOf (after (begun room) calls .salvage) ≡ Whole t → Exact (after (begun room) calls) t
 
--- Asked while 16 bytes or more wait, it leaves fewer; with a room of 16 bytes or more and fewer than 16 that wait, it takes at least one more:
--- goes-on
+-- Asked while 16 bytes or more wait, it leaves fewer; with a room of 16 bytes or more and fewer than 16 that wait, it takes at least one byte of a
+-- chunk that is not empty: goes-on
 pub record Advances (c : Session) : Type 0 where
   pub asked : isSettledOf (c .salvage) ≡ false
       → askedOf (c .salvage) (c .room) .salvage .to - askedOf (c .salvage) (c .room) .salvage .from < c .salvage .to - c .salvage .from
