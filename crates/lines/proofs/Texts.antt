@@ -1,8 +1,8 @@
 -- Words and numbers as text: the digits that the code looks up and those that `io` gives are the ones of the definitions. Assumes nothing.
 use mathlib.Core.Path.{_≡_, refl, sym, ap, ap₂, subst, _∙_}
-use mathlib.Core.Bool.{Bool, true, false, cond, _&&_, true≢false}
+use mathlib.Core.Bool.{Bool, cond}
 use Prim.Native.Nat.{ℕ, zero, suc, _+_, _*_, _-_, _/_, _%_, _^_, _≤_, _<_}
-use native.Mathlib.Nat.{pow-suc, not-suc-le-zero, lt-of-not-le}
+use native.Mathlib.Nat.{pow-suc, lt-of-not-le}
 use native.Mathlib.Omega.{arith}
 use native.Mathlib.Decide.{decLe}
 use mathlib.Core.Logic.{dite}
@@ -12,26 +12,8 @@ use lib.Pow.{pow-add}
 use lib.ListN.{getD, take}
 use borrow.Author.Tests.{lt-ltb, le-ltb, eqb-true}
 use Rattle.io.specs.Digits.{glyph, digits, Fewest}
+use Rattle.words.proofs.Truth.{passes, passed}
 use Rattle.lines.specs.Sinks.{digitOf, wordText, decimalIn, decimalText}
-
--- ---- a test that is computed at every number below a bound
-
-passes : ℕ → (ℕ → Bool) → Bool
-passes zero test = true
-passes (suc n) test = test n && passes n test
-
-and-both : (a b : Bool) → (a && b) ≡ true → (a ≡ true) × (b ≡ true)
-and-both true b h = (refl, h)
-and-both false b h = absurd (true≢false (sym h))
-
-passed : (n : ℕ) (test : ℕ → Bool) → passes n test ≡ true → (i : ℕ) → i < n → test i ≡ true
-unfolding passes
-passed zero test all i h = absurd (not-suc-le-zero h)
-passed (suc n) test all i h =
-    let parts = and-both (test n) (passes n test) all in
-    dite (decLe (suc i) n)
-    (λ below. passed n test (parts .1) i below)
-    (λ last. subst (λ (m : ℕ). test m ≡ true) {x = n} {y = i} (omega arith) (parts .0))
 
 -- ---- hexadecimal
 

@@ -1,12 +1,9 @@
 -- The code table as the code holds it, a letter for each T/R bit and code, is the table of document 01: one test, computed over all 64.
 -- The same way: which codes the table lists, and how many. Assumes nothing.
-use mathlib.Core.Path.{_≡_, refl, sym, ap, subst, _∙_}
+use mathlib.Core.Path.{_≡_, refl, sym, ap, _∙_}
 use mathlib.Core.Bool.{Bool, true, false, not, cond, _&&_, _||_, true≢false}
 use mathlib.Core.List.{List, [], _∷_}
-use mathlib.Core.Logic.{dite}
-use Prim.Native.Nat.{ℕ, zero, suc, _+_, _*_, _/_, _%_, _<_}
-use native.Mathlib.Nat.{not-suc-le-zero}
-use native.Mathlib.Decide.{decLe}
+use Prim.Native.Nat.{ℕ, _+_, _*_, _/_, _%_, _<_}
 use native.Mathlib.Omega.{arith}
 use lib.Dec.{eqb, leb}
 use lib.ListN.{getD}
@@ -17,22 +14,7 @@ use Rattle.words.specs.Theorems.{isListed, howMany, FifteenListed, OnlyL
 use Rattle.words.specs.declared.modes.Listing.{Listing}
 use Rattle.words.specs.declared.modes.Listing.the-variants.{Reserved, Listed}
 use Rattle.words.specs.declared.modes.ModeWord.the-variants.{None, Sent, Received}
-use Rattle.words.proofs.Truth.{and-both}
-
--- ---- a test that is computed at every number below a bound
-
-passes : ℕ → (ℕ → Bool) → Bool
-passes zero test = true
-passes (suc n) test = test n && passes n test
-
-passed : (n : ℕ) (test : ℕ → Bool) → passes n test ≡ true → (i : ℕ) → i < n → test i ≡ true
-unfolding passes
-passed zero test all i h = absurd (not-suc-le-zero h)
-passed (suc n) test all i h =
-    let parts = and-both (test n) (passes n test) all in
-    dite (decLe (suc i) n)
-    (λ below. passed n test (parts .1) i below)
-    (λ last. subst (λ (m : ℕ). test m ≡ true) {x = n} {y = i} (omega arith) (parts .0))
+use Rattle.words.proofs.Truth.{and-both, passes, passed}
 
 -- what the test says of a place is said of its T/R bit and its code
 at-pair : (test : ℕ → ℕ → Bool) → passes 64 (λ (i : ℕ). test (i / 32) (i % 32)) ≡ true → (t c : ℕ) → t < 2 → c < 32 → test t c ≡ true
