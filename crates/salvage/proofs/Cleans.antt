@@ -3,7 +3,7 @@ use mathlib.Core.Path.{_≡_, refl, sym, ap, ap₂, subst, _∙_}
 use mathlib.Core.Bool.{Bool, true, false, cond}
 use Prim.Native.Nat.{ℕ, zero, suc, _+_, _≤_}
 use native.Mathlib.Omega.{arith}
-use mathlib.Core.List.{List, [], _∷_, _++_, append-nil}
+use mathlib.Core.List.{List, [], _∷_, _++_}
 use lib.Dec.{eqb}
 use lib.ListN.{length, take, drop, length-append, length-drop, take-append-drop}
 use lib.Seq.{length-take-le, drop-at}
@@ -16,36 +16,16 @@ use Rattle.records.specs.declared.forms.WordRecord.{WordRecord}
 use Rattle.records.specs.declared.forms.Read.{Read}
 use Rattle.records.specs.declared.forms.Read.the-variants.{Record, Refused}
 use Rattle.records.specs.declared.files.Opened.the-variants as opened
-use Rattle.records.proofs.Theorems.{read-good, read-front}
 use Rattle.records.proofs.Walks.{walk-none, walk-some}
-use Rattle.salvage.specs.Pieces.{inTime, chosen, choiceOf, Piece, kept, piecesFrom, afterFirst, piecesOf, keptBytes, cleanOf, runsFrom, runsOf, changedOf}
+use Rattle.salvage.specs.Pieces.{inTime, choiceOf, Piece, kept, piecesFrom, afterFirst, piecesOf, keptBytes, cleanOf, runsFrom, runsOf, changedOf}
 use Rattle.salvage.specs.Theorems.{InTime, InOrder, keptRecords, SavedReads, Unchanged, WholeFileKept, SavedAgain, EmptyFile}
 use Rattle.salvage.specs.declared.choices.Last.{Last}
 use Rattle.salvage.specs.declared.choices.Last.the-variants.{Nothing, At}
-use Rattle.salvage.specs.declared.choices.Choice.the-variants.{Keeps, Skips}
+use Rattle.salvage.specs.declared.choices.Choice.the-variants.{Keeps}
 use Rattle.salvage.proofs.Cases.{choice-kept}
-use Rattle.salvage.proofs.Fronts.{never, choice-long, by-choice, pieces-keep, pieces-skip}
+use Rattle.salvage.proofs.Fronts.{found, front-read, front-record, choice-long, by-choice, pieces-keep, pieces-skip}
 
 -- ---- what is kept reads
-
--- what a choice to keep shows
-pub found : (last : Last) (s : List ℕ) (t : Moment) → choiceOf last s ≡ Keeps t → InTime last s t
-unfolding choiceOf
-found last s t q = by (readOf s) refl q
-  where
-    kept-by : (r : WordRecord) (b : Bool) → readOf s ≡ Record r → inTime last (r .time .0) ≡ b → cond b (Keeps (r .time)) Skips ≡ Keeps t → InTime last s t
-    kept-by r true e h k = record { r = r; reads = e; timed = cc; in-time = h }
-    kept-by r false e h k = absurd (never t k)
-
-    by : (g : Read) → readOf s ≡ g → chosen last g ≡ Keeps t → InTime last s t
-    by (Record r) e k = kept-by r (inTime last (r .time .0)) e refl k
-    by (Refused n) e k = absurd (never t k)
-
--- 16 bytes are read as they stand, whatever comes behind them
-front-read : (s more : List ℕ) → 16 ≤ length s → readOf (take 16 s ++ more) ≡ readOf s
-front-read s more l =
-    let long : 16 ≤ length (take 16 s) = omega (arith, length-take-le 16 s l) in
-    read-front (take 16 s) more long ∙ sym (read-front (take 16 s) (drop 16 s) long) ∙ ap readOf (take-append-drop 16 s)
 
 record Reads (last : Last) (ps : List Piece) : Type 0 where
   walk : (n : ℕ) → length (keptBytes ps) ≤ n → walkFrom n (keptBytes ps) ≡ whole (keptRecords ps)
@@ -56,7 +36,7 @@ reads-kept last s t ps f l rest =
     let front = take 16 s in
     let sixteen : length front ≡ 16 = length-take-le 16 s l in
     let read : (more : List ℕ) → readOf (front ++ more) ≡ Record (f .r) = λ more. front-read s more l ∙ f .reads in
-    let record-is : recordAt front ≡ f .r = read-good front (f .r) (ap readOf (sym (append-nil front)) ∙ read []) .same in
+    let record-is : recordAt front ≡ f .r = front-record last s t f l in
     let time-is : recordAt front .time ≡ t = ap (λ (r : WordRecord). r .time) record-is ∙ f .timed in
     record {
       walk = walk-on front (keptBytes ps) (keptRecords ps) (f .r) (recordAt front) sixteen (read (keptBytes ps)) record-is (rest .walk);

@@ -5,14 +5,21 @@ use native.Mathlib.Omega.{arith}
 use native.Mathlib.Nat.{lt-of-not-le}
 use native.Mathlib.Decide.{decLe}
 use mathlib.Core.Logic.{dite}
-use mathlib.Core.List.{List, [], _∷_, _++_}
-use lib.ListN.{length, take, drop, length-drop}
+use mathlib.Core.Bool.{Bool, true, false, cond}
+use mathlib.Core.List.{List, [], _∷_, _++_, append-nil}
+use lib.ListN.{length, take, drop, length-drop, take-append-drop}
+use lib.Seq.{length-take-le}
 use borrow.Author.Tests.{lt-ltb, le-ltb}
 use Rattle.words.specs.declared.times.Moment.{Moment}
+use Rattle.records.specs.Records.{recordAt, readOf}
+use Rattle.records.specs.declared.forms.WordRecord.{WordRecord}
+use Rattle.records.specs.declared.forms.Read.{Read}
+use Rattle.records.specs.declared.forms.Read.the-variants.{Record, Refused}
 use Rattle.records.proofs.Cases.{short}
-use Rattle.records.proofs.Theorems.{read-front}
-use Rattle.salvage.specs.Pieces.{chosen, choiceOf, Piece, kept, skipped, piecesFrom}
-use Rattle.salvage.specs.Machine.{longer, keptFrom, skippedFrom}
+use Rattle.records.proofs.Theorems.{read-good, read-front}
+use Rattle.salvage.specs.Pieces.{inTime, chosen, choiceOf, Piece, kept, skipped, piecesFrom}
+use Rattle.salvage.specs.Machine.{longer, frontOf, keptFrom, skippedFrom}
+use Rattle.salvage.specs.Theorems.{InTime}
 use Rattle.salvage.specs.declared.choices.Last.{Last}
 use Rattle.salvage.specs.declared.choices.Last.the-variants.{At}
 use Rattle.salvage.specs.declared.choices.Choice.{Choice}
@@ -36,6 +43,30 @@ choice-long last s t q = dite (decLe 16 (length s)) (λ l. l) (λ few. absurd (n
 pub choice-front : (last : Last) (s after : List ℕ) → 16 ≤ length s → choiceOf last (s ++ after) ≡ choiceOf last s
 unfolding choiceOf
 choice-front last s after l = ap (chosen last) (read-front s after l)
+
+-- what a choice to keep shows
+pub found : (last : Last) (s : List ℕ) (t : Moment) → choiceOf last s ≡ Keeps t → InTime last s t
+unfolding choiceOf
+found last s t q = by (readOf s) refl q
+  where
+    kept-by : (r : WordRecord) (b : Bool) → readOf s ≡ Record r → inTime last (r .time .0) ≡ b → cond b (Keeps (r .time)) Skips ≡ Keeps t → InTime last s t
+    kept-by r true e h k = record { r = r; reads = e; timed = cc; in-time = h }
+    kept-by r false e h k = absurd (never t k)
+
+    by : (g : Read) → readOf s ≡ g → chosen last g ≡ Keeps t → InTime last s t
+    by (Record r) e k = kept-by r (inTime last (r .time .0)) e refl k
+    by (Refused n) e k = absurd (never t k)
+
+-- 16 bytes are read as they stand, whatever comes behind them
+pub front-read : (s more : List ℕ) → 16 ≤ length s → readOf (take 16 s ++ more) ≡ readOf s
+front-read s more l =
+    let long : 16 ≤ length (take 16 s) = omega (arith, length-take-le 16 s l) in
+    read-front (take 16 s) more long ∙ sym (read-front (take 16 s) (drop 16 s) long) ∙ ap readOf (take-append-drop 16 s)
+
+pub front-record : (last : Last) (s : List ℕ) (t : Moment) (f : InTime last s t) → 16 ≤ length s → recordAt (take 16 s) ≡ f .r
+front-record last s t f l =
+    let front = take 16 s in
+    read-good front (f .r) (ap readOf (sym (append-nil front)) ∙ front-read s [] l ∙ f .reads) .same
 
 -- ---- the pieces
 
@@ -64,21 +95,17 @@ by-choice last s P keep skip = by (choiceOf last s) refl
 
 -- ---- the stretches
 
-kept-pass : (n : ℕ) (last : Last) (s : List ℕ) → keptFrom n last s ≡ keptFrom 0 last (drop n s)
+pub kept-keep : (last : Last) (s : List ℕ) (t : Moment) → choiceOf last s ≡ Keeps t → keptFrom last s ≡ longer (keptFrom (At t) (drop 16 s))
 unfolding keptFrom
-kept-pass zero last s = refl
-kept-pass (suc n) last [] = refl
-kept-pass (suc n) last (x ∷ s) = kept-pass n last s
+kept-keep last s t q =
+    let f = found last s t q in
+    let time : recordAt (take 16 s) .time ≡ t = ap (λ (r : WordRecord). r .time) (front-record last s t f (choice-long last s t q)) ∙ f .timed in
+    ap (frontOf last) (pieces-keep last s t q) ∙ ap (λ (m : Moment). longer (frontOf (At m) (piecesFrom 0 (At t) (drop 16 s)))) time
 
-pub kept-keep : (last : Last) (s : List ℕ) (t : Moment) → choiceOf last s ≡ Keeps t → keptFrom 0 last s ≡ longer (keptFrom 0 (At t) (drop 16 s))
-unfolding keptFrom
-kept-keep last [] t q = absurd (never t (sym (choice-short last [] (omega arith)) ∙ q))
-kept-keep last (x ∷ s) t q = rw q (ap longer (kept-pass 15 (At t) s))
-
-pub kept-skip : (last : Last) (s : List ℕ) → choiceOf last s ≡ Skips → keptFrom 0 last s ≡ record { bytes = 0; last = last }
-unfolding keptFrom
+pub kept-skip : (last : Last) (s : List ℕ) → choiceOf last s ≡ Skips → keptFrom last s ≡ record { bytes = 0; last = last }
+unfolding keptFrom piecesFrom
 kept-skip last [] q = refl
-kept-skip last (x ∷ s) q = rw q
+kept-skip last (x ∷ s) q = ap (frontOf last) (pieces-skip last x s q)
 
 pub skipped-short : (last : Last) (s : List ℕ) → length s < 16 → skippedFrom last s ≡ 0
 unfolding skippedFrom
@@ -96,19 +123,19 @@ skipped-one last x s l q = rw (le-ltb _ _ l, q)
 
 -- ---- no stretch is longer than the bytes
 
-kept-within-by : (n : ℕ) (last : Last) (s : List ℕ) → length s ≤ n → keptFrom 0 last s .bytes ≤ length s
+kept-within-by : (n : ℕ) (last : Last) (s : List ℕ) → length s ≤ n → keptFrom last s .bytes ≤ length s
 kept-within-by zero last s l =
     let none = kept-skip last s (choice-short last s (omega arith)) in
     omega (arith, ap (λ (k : Stretch). k .bytes) none)
 kept-within-by (suc n) last s l =
-    by-choice last s (keptFrom 0 last s .bytes ≤ length s)
+    by-choice last s (keptFrom last s .bytes ≤ length s)
     (λ t q.
     let long = choice-long last s t q in
     let rest = kept-within-by n (At t) (drop 16 s) (omega (arith, length-drop 16 s)) in
     omega (arith, long, rest, length-drop 16 s, ap (λ (k : Stretch). k .bytes) (kept-keep last s t q)))
     (λ q. omega (arith, ap (λ (k : Stretch). k .bytes) (kept-skip last s q)))
 
-pub kept-within : (last : Last) (s : List ℕ) → keptFrom 0 last s .bytes ≤ length s
+pub kept-within : (last : Last) (s : List ℕ) → keptFrom last s .bytes ≤ length s
 kept-within last s = kept-within-by (length s) last s (omega arith)
 
 pub skipped-within : (last : Last) (s : List ℕ) → skippedFrom last s ≤ length s

@@ -13,8 +13,7 @@ use Rattle.salvage.specs.declared.choices.Last.{Last}
 use Rattle.salvage.specs.declared.choices.Last.the-variants.{Nothing, At}
 use Rattle.salvage.specs.declared.salvages.Run.{Run}
 use Rattle.salvage.proofs.Cases.{choice-kept}
-use Rattle.salvage.proofs.Cleans.{found}
-use Rattle.salvage.proofs.Fronts.{choice-long, by-choice, pieces-keep, pieces-skip}
+use Rattle.salvage.proofs.Fronts.{found, choice-long, by-choice, pieces-keep, pieces-skip}
 
 -- ---- the walk
 

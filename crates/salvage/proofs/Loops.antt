@@ -31,20 +31,20 @@ further-longer n stretch = ap (λ (k : ℕ). record { bytes = k; last = stretch 
 
 pub record Keeping (s : List ℕ) (first last : Last) (at : ℕ) : Type 0 where
   pub inside : at ≤ length s
-  pub same : keptFrom 0 first s ≡ further at (keptFrom 0 last (drop at s))
+  pub same : keptFrom first s ≡ further at (keptFrom last (drop at s))
 
 pub keeping-start : (s : List ℕ) (first : Last) → Keeping s first first 0
-keeping-start s first = record { inside = omega arith; same = ap (λ (k : ℕ). record { bytes = k; last = keptFrom 0 first s .last }) (sym (zero-add (keptFrom 0 first s .bytes))) }
+keeping-start s first = record { inside = omega arith; same = ap (λ (k : ℕ). record { bytes = k; last = keptFrom first s .last }) (sym (zero-add (keptFrom first s .bytes))) }
 
 module _ (s : List ℕ) (first last : Last) (at : ℕ) (keeping : Keeping s first last at) where
-  stop : keptFrom 0 last (drop at s) ≡ record { bytes = 0; last = last } → record { bytes = at; last = last } ≡ keptFrom 0 first s
+  stop : keptFrom last (drop at s) ≡ record { bytes = 0; last = last } → record { bytes = at; last = last } ≡ keptFrom first s
   stop e = ap (λ (k : ℕ). record { bytes = k; last = last }) (sym (add-zero at)) ∙ sym (ap (further at) e) ∙ sym (keeping .same)
 
-  pub keeping-short : length s - at < 16 → record { bytes = at; last = last } ≡ keptFrom 0 first s
+  pub keeping-short : length s - at < 16 → record { bytes = at; last = last } ≡ keptFrom first s
   keeping-short l = stop (kept-skip last (drop at s) (choice-short last (drop at s) (omega (arith, length-drop at s))))
 
   module _ (g : Choice) (l : 16 ≤ length s - at) (e : g ≡ choiceOf last (take (length s - at) (drop at s))) where
-    pub keeping-stop : g ≡ Skips → record { bytes = at; last = last } ≡ keptFrom 0 first s
+    pub keeping-stop : g ≡ Skips → record { bytes = at; last = last } ≡ keptFrom first s
     keeping-stop q = stop (kept-skip last (drop at s) (rest-choice last s at g Skips (keeping .inside) e q))
 
     pub keeping-next : (t : Moment) → g ≡ Keeps t → Keeping s first (At t) (at + 16)
@@ -55,8 +55,8 @@ module _ (s : List ℕ) (first last : Last) (at : ℕ) (keeping : Keeping s firs
           same =
               keeping .same
               ∙ ap (further at) (kept-keep last (drop at s) t choice)
-              ∙ further-longer at (keptFrom 0 (At t) (drop 16 (drop at s)))
-              ∙ ap (λ (k : List ℕ). further (at + 16) (keptFrom 0 (At t) k)) (drop-drop 16 at s);
+              ∙ further-longer at (keptFrom (At t) (drop 16 (drop at s)))
+              ∙ ap (λ (k : List ℕ). further (at + 16) (keptFrom (At t) k)) (drop-drop 16 at s);
         }
 
 -- ---- bytes that are skipped

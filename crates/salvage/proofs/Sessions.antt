@@ -58,9 +58,9 @@ going-fed s waiting rest clean runs more going = record {
 }
 
 -- a stretch of no byte leaves the last kept
-none-last : (last : Last) (s : List ℕ) → keptFrom 0 last s .bytes ≡ 0 → keptFrom 0 last s .last ≡ last
+none-last : (last : Last) (s : List ℕ) → keptFrom last s .bytes ≡ 0 → keptFrom last s .last ≡ last
 none-last last s h =
-    by-choice last s (keptFrom 0 last s .last ≡ last)
+    by-choice last s (keptFrom last s .last ≡ last)
     (λ t q. absurd (omega (arith, h, ap (λ (k : Stretch). k .bytes) (kept-keep last s t q))))
     (λ q. ap (λ (k : Stretch). k .last) (kept-skip last s q))
 
@@ -144,7 +144,7 @@ module _ (s : Settled) (waiting rest clean : List ℕ) (runs : List Run) (k : St
       (subst (Asked s waiting rest clean runs k n _) (run-some s k h) (asked-some h)))
 
   -- what is going stays going
-  going-asked : k ≡ keptFrom 0 (s .last) waiting → n ≡ skippedFrom (k .last) (drop (k .bytes) waiting)
+  going-asked : k ≡ keptFrom (s .last) waiting → n ≡ skippedFrom (k .last) (drop (k .bytes) waiting)
       → Going (settledSkipped (settledKept s k) n) (drop (k .bytes + n) waiting) rest (clean ++ take (k .bytes) waiting)
       (runs ++ listed (runEnded s k .place) (runEnded s k .length))
   going-asked k-is n-is =
@@ -186,9 +186,6 @@ reached-begun room = record {
 -- ---- feeding
 
 module _ (s : Salvage) (room more : List ℕ) where
-  w : List ℕ
-  w = waitingIn s room
-
   -- what was gathered waits behind what waited
   gathered-waits : (first : First) → waitingIn (gatheredOf s first room more .salvage) (gatheredIn s room more) ≡ waitingIn s room ++ take (takenOf s room more) more
   unfolding gatheredOf gatheredIn
@@ -416,7 +413,7 @@ inside-after c (feeds chunk ∷ calls) l = inside-after (afterCall c (feeds chun
 inside-after c (asks ∷ calls) l = inside-after (afterCall c asks) calls l
 
 -- of 16 bytes or more, one at least is settled
-some-settled : (last : Last) (w : List ℕ) → 16 ≤ length w → 0 < keptFrom 0 last w .bytes + skippedFrom (keptFrom 0 last w .last) (drop (keptFrom 0 last w .bytes) w)
+some-settled : (last : Last) (w : List ℕ) → 16 ≤ length w → 0 < keptFrom last w .bytes + skippedFrom (keptFrom last w .last) (drop (keptFrom last w .bytes) w)
 some-settled last [] l = absurd (omega arith)
 some-settled last (x ∷ w) l =
     by-choice last (x ∷ w) _

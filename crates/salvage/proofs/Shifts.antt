@@ -30,9 +30,6 @@ pub moving-start : (old : List ℕ) (from count : ℕ) → from + count ≤ leng
 moving-start old from count l = record { inside = l; few = omega arith; same = paste-zero old 0 (drop from old); long = refl }
 
 module _ (old : List ℕ) (from count : ℕ) (room : List ℕ) (i : ℕ) (moving : Moving old from count room i) where
-  rest : List ℕ
-  rest = drop from old
-
   pub moving-end : count ≤ i → room ≡ take count (drop from old) ++ drop count old
   moving-end l =
       let all : i ≡ count = omega (arith, moving .few) in
@@ -170,9 +167,9 @@ module _ (s : Salvage) (room : List ℕ) (end begin : ℕ) (e : end ≡ min (s .
 
   -- ---- asking
 
-  module _ (stretch : Stretch) (q : stretch ≡ keptFrom 0 (s .settled .last) (take (end - begin) (drop begin room))) where
+  module _ (stretch : Stretch) (q : stretch ≡ keptFrom (s .settled .last) (take (end - begin) (drop begin room))) where
     stretch-is : stretch ≡ stretchOf s room
-    stretch-is = q ∙ ap (keptFrom 0 (s .settled .last)) window
+    stretch-is = q ∙ ap (keptFrom (s .settled .last)) window
 
     pub kept-inside : begin + stretch .bytes ≤ end
     kept-inside =

@@ -139,18 +139,18 @@ abbrev Kept : Tally → Last → List ℕ → List ℕ → Stretch → Type 0
 Kept t last s after k =
     tell t (piecesFrom 0 last (s ++ after)) ≡ tell (withKept t (take (k .bytes) s) (k .bytes)) (piecesFrom 0 (k .last) (drop (k .bytes) s ++ after))
 
-kept-none : (t : Tally) (last : Last) (s after : List ℕ) → choiceOf last s ≡ Skips → Kept t last s after (keptFrom 0 last s)
+kept-none : (t : Tally) (last : Last) (s after : List ℕ) → choiceOf last s ≡ Skips → Kept t last s after (keptFrom last s)
 kept-none t last s after q =
     subst (Kept t last s after) (sym (kept-skip last s q))
     (ap (λ (u : Tally). tell u (piecesFrom 0 last (s ++ after))) (sym (with-none t (take 0 s) 0 refl)))
 
-tell-kept-by : (fuel : ℕ) (t : Tally) (last : Last) (s after : List ℕ) → length s ≤ fuel → Kept t last s after (keptFrom 0 last s)
+tell-kept-by : (fuel : ℕ) (t : Tally) (last : Last) (s after : List ℕ) → length s ≤ fuel → Kept t last s after (keptFrom last s)
 tell-kept-by zero t last s after l = kept-none t last s after (choice-short last s (omega arith))
 tell-kept-by (suc fuel) t last s after l =
-    by-choice last s (Kept t last s after (keptFrom 0 last s))
+    by-choice last s (Kept t last s after (keptFrom last s))
     (λ m q.
     let long = choice-long last s m q in
-    let rest = keptFrom 0 (At m) (drop 16 s) in
+    let rest = keptFrom (At m) (drop 16 s) in
     let u = step t (kept (take 16 s)) in
     let first : tell t (piecesFrom 0 last (s ++ after)) ≡ tell u (piecesFrom 0 (At m) (drop 16 s ++ after)) =
     ap (tell t) (pieces-keep last (s ++ after) m (choice-front last s after long ∙ q))
@@ -163,7 +163,7 @@ tell-kept-by (suc fuel) t last s after l =
 
 pub tell-kept : (t : Tally) (last : Last) (s after : List ℕ)
     → tell t (piecesFrom 0 last (s ++ after))
-    ≡ tell (withKept t (take (keptFrom 0 last s .bytes) s) (keptFrom 0 last s .bytes)) (piecesFrom 0 (keptFrom 0 last s .last) (drop (keptFrom 0 last s .bytes) s ++ after))
+    ≡ tell (withKept t (take (keptFrom last s .bytes) s) (keptFrom last s .bytes)) (piecesFrom 0 (keptFrom last s .last) (drop (keptFrom last s .bytes) s ++ after))
 tell-kept t last s after = tell-kept-by (length s) t last s after (omega arith)
 
 -- ---- skipped bytes at once

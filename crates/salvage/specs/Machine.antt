@@ -1,13 +1,13 @@
 -- The machine that is fed a damaged file chunk by chunk (02 c): what each of its calls gives. That together they give what Pieces.antt says of the
 -- whole file, whatever the chunks, is `chunks-do-not-matter`. Assumes nothing.
-use Prim.Native.Nat.{ℕ, zero, suc, _+_, _-_, _/_, _%_, _^_, min}
+use Prim.Native.Nat.{ℕ, _+_, _-_, _/_, _%_, _^_, min}
 use mathlib.Core.Bool.{Bool, true, false, cond}
 use mathlib.Core.List.{List, [], _∷_, _++_}
 use lib.Dec.{ltb, eqb}
 use lib.ListN.{length, take, drop}
-use Rattle.records.specs.Records.{recordBytes}
+use Rattle.records.specs.Records.{recordBytes, recordAt}
 use Rattle.records.specs.Files.{version}
-use Rattle.salvage.specs.Pieces.{choiceOf, afterFirst}
+use Rattle.salvage.specs.Pieces.{choiceOf, Piece, kept, skipped, piecesFrom, afterFirst}
 use Rattle.salvage.specs.declared.choices.Last.{Last}
 use Rattle.salvage.specs.declared.choices.Last.the-variants.{Nothing, At}
 use Rattle.salvage.specs.declared.choices.Choice.{Choice}
@@ -34,16 +34,17 @@ sum64 a b = (a + b) % 2 ^ 64
 abbrev pub longer : Stretch → Stretch
 longer stretch = record { bytes = recordBytes + stretch .bytes; last = stretch .last }
 
-abbrev pub keptAt : Choice → Last → (ℕ → Last → Stretch) → Stretch
-keptAt (Keeps time) last after = longer (after 15 (At time))
-keptAt Skips last after = record { bytes = 0; last = last }
+-- The records at the front of some pieces.
+abbrev pub frontOf : Last → List Piece → Stretch
+frontOf last [] = record { bytes = 0; last = last }
+frontOf last (kept bytes ∷ pieces) = longer (frontOf (At (recordAt bytes .time)) pieces)
+frontOf last (skipped byte ∷ pieces) = record { bytes = 0; last = last }
 
--- The records that are kept one after the other, the first `inside` bytes belonging to one that is kept already.
-unfoldable pub keptFrom : ℕ → Last → List ℕ → Stretch
-keptFrom inside last [] = record { bytes = 0; last = last }
-keptFrom (suc inside) last (byte ∷ rest) = keptFrom inside last rest
-keptFrom zero last (byte ∷ rest) = keptAt (choiceOf last (byte ∷ rest)) last (λ (inside : ℕ) (last : Last). keptFrom inside last rest)
+-- The records at the front of some bytes that are kept, one after the other.
+unfoldable pub keptFrom : Last → List ℕ → Stretch
+keptFrom last bytes = frontOf last (piecesFrom 0 last bytes)
 
+-- One byte more that is skipped, where the choice is to skip it.
 abbrev pub skippedAt : Choice → ℕ → ℕ
 skippedAt (Keeps time) after = 0
 skippedAt Skips after = after + 1
@@ -56,6 +57,7 @@ skippedFrom last (byte ∷ rest) =
 
 -- ---- what is settled
 
+-- With a stretch of records: the run before it is over, and the next one would begin behind it.
 unfoldable pub settledKept : Settled → Stretch → Settled
 settledKept s stretch =
     cond (eqb (stretch .bytes) 0) s
@@ -66,6 +68,7 @@ settledKept s stretch =
       skipped = s .skipped;
     })
 
+-- With so many skipped bytes: the run goes on.
 abbrev pub settledSkipped : Settled → ℕ → Settled
 settledSkipped s bytes = record {
   last = s .last;
@@ -80,6 +83,7 @@ runEnded s stretch = cond (eqb (stretch .bytes) 0) (record { place = 0; length =
 
 -- ---- the machine
 
+-- Before any byte. The first byte has the place 0, those that are walked begin at 1.
 abbrev pub startOf : Salvage
 startOf = record {
   first = Missing;
@@ -94,7 +98,7 @@ waitingIn s room = take (s .to - s .from) (drop (s .from) room)
 
 -- ---- feeding
 
--- Of the bytes handed over, as many as the room has room for are taken, and wait behind those that wait already.
+-- Of the bytes handed over, as many are taken as the room has room for.
 abbrev pub takenOf : Salvage → List ℕ → List ℕ → ℕ
 takenOf s room more = min (length room - length (waitingIn s room)) (length more)
 
@@ -104,17 +108,19 @@ gatheredOf s first room more = record {
   taken = takenOf s room more;
 }
 
+-- They wait behind those that wait already, all at the front of the room; else it is as before.
 unfoldable pub gatheredIn : Salvage → List ℕ → List ℕ → List ℕ
 gatheredIn s room more =
     waitingIn s room ++ (take (takenOf s room more) more ++ drop (length (waitingIn s room) + takenOf s room more) room)
 
--- "walks the bytes after the first": the file's first byte is looked at and does not wait.
+-- "whether the first byte was changed"
 unfoldable pub firstOf : ℕ → First
 firstOf byte = cond (eqb byte version) Kept Changed
 
 abbrev pub oneMore : Fed → Fed
 oneMore fed = record { salvage = fed .salvage; taken = fed .taken + 1 }
 
+-- "walks the bytes after the first": the file's first byte, in whatever chunk it comes, is taken and does not wait.
 unfoldable pub begunOf : Salvage → List ℕ → List ℕ → Fed
 begunOf s room [] = gatheredOf s Missing room []
 begunOf s room (byte ∷ more) = oneMore (gatheredOf s (firstOf byte) room more)
@@ -139,7 +145,7 @@ roomOf s room chunk = gatheredIn s room (behindFirst (s .first) chunk)
 
 -- Of the bytes that wait: records that are kept, then bytes that are skipped.
 abbrev pub stretchOf : Salvage → List ℕ → Stretch
-stretchOf s room = keptFrom 0 (s .settled .last) (waitingIn s room)
+stretchOf s room = keptFrom (s .settled .last) (waitingIn s room)
 
 abbrev pub skippedOf : Salvage → List ℕ → ℕ
 skippedOf s room = skippedFrom (stretchOf s room .last) (drop (stretchOf s room .bytes) (waitingIn s room))
@@ -159,6 +165,7 @@ askedOf s room = record {
 
 -- ---- the end
 
+-- Fewer than 16 bytes wait: nothing more can be settled.
 unfoldable pub isSettledOf : Salvage → Bool
 isSettledOf s = ltb (s .to - s .from) recordBytes
 
@@ -180,5 +187,6 @@ totalsOf s =
     let after = settledSkipped (s .settled) (s .to - s .from) in
     record { first = s .first; run = after .run; records = after .records; skipped = after .skipped; bytes = sizeOf (s .first) (after .run) }
 
+-- While 16 or more wait it is too early: one of them may begin a record.
 unfoldable pub endedOf : Salvage → Ended
 endedOf s = cond (isSettledOf s) (Whole (totalsOf s)) Early

@@ -13,7 +13,7 @@ pub(crate) struct Stretch {
 
 // Gives the stretch of records at the front of the bytes that are kept, one after the other.
 pub(crate) fn keep_stretch(last: Last, bytes: &[u8]) -> Stretch
-    ensures stretch { λ r. ⌜ r ≡ keptFrom 0 last (now (bytes .entry)) ⌝ }
+    ensures stretch { λ r. ⌜ r ≡ keptFrom last (now (bytes .entry)) ⌝ }
 {
     let mut kept = last;
     let mut at = 0;
