@@ -7,9 +7,8 @@ use native.Mathlib.Omega.{arith}
 use lib.ListN.{length, take, drop}
 use lib.Seq.{paste, take-all}
 use borrow.Author.Tests.{le-leb, ne-eqb, not-true}
-use Rattle.words.specs.Words.{dueDistance, addressOf, wordsOf, isTransmit, isMode, isBroadcast}
+use Rattle.words.specs.Words.{dueDistance, addressOf, wordsOf, isTransmit, isMode, isBroadcast, awaitedOf}
 use Rattle.terminal.specs.States.{noMessage}
-use Rattle.terminal.specs.Commands.{awaitedOf}
 use Rattle.terminal.specs.Messages.{isUnderWay, isWhole, isDue}
 use Rattle.terminal.specs.Settling.{isShut, settledStatus, firstPlace, modeWords, legalReply, replyOf, storesData, storedOf, isWithheld, answerOf}
 use Rattle.terminal.specs.Effects.{withSelftest}

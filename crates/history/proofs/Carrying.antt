@@ -6,8 +6,7 @@ use mathlib.Core.List.{List, [], _∷_, _++_, append-assoc, append-nil}
 use native.Mathlib.Omega.{arith}
 use lib.ListN.{length, length-append}
 use borrow.Author.Tests.{ltb-true}
-use Rattle.words.specs.Words.{dueDistance}
-use Rattle.terminal.specs.Commands.{awaitedOf}
+use Rattle.words.specs.Words.{dueDistance, awaitedOf}
 use Rattle.terminal.specs.Events.{timeOf}
 use Rattle.terminal.specs.declared.states.Message.{Message}
 use Rattle.terminal.specs.declared.states.Terminal.{Terminal as State}

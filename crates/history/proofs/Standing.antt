@@ -5,9 +5,9 @@ use mathlib.Core.Bool.{Bool, true, false, not, _&&_, _||_}
 use mathlib.Core.List.{List, [], _∷_}
 use lib.Dec.{eqb}
 use borrow.Author.Tests.{eqb-true}
-use Rattle.words.specs.Words.{addressOf, codeOf, isTransmit, isMode}
+use Rattle.words.specs.Words.{addressOf, codeOf, isTransmit, isMode, awaitedOf}
 use Rattle.records.specs.declared.forms.WordRecord.{WordRecord}
-use Rattle.terminal.specs.Commands.{isOwn, isExempt, isLegal, awaitedOf}
+use Rattle.terminal.specs.Commands.{isOwn, isExempt, isLegal}
 use Rattle.terminal.specs.Messages.{isUnderWay, isOn, awaitsData, isDue, isLate, isSending, isNextData, isSecond, isStatusFrom}
 use Rattle.terminal.specs.Settling.{settledStatus}
 use Rattle.terminal.specs.Effects.{withStatus, effectOf, heldAfter}

@@ -5,10 +5,9 @@ use mathlib.Core.Bool.{true, false}
 use native.Mathlib.Omega.{arith}
 use lib.ListN.{length-set}
 use borrow.Author.Tests.{leb-true, ltb-true}
-use Rattle.words.specs.Words.{isTransmit, isMode, dueDistance}
+use Rattle.words.specs.Words.{isTransmit, isMode, dueDistance, awaitedOf}
 use Rattle.records.specs.Records.{inRange}
 use Rattle.records.specs.declared.forms.WordRecord.{WordRecord}
-use Rattle.terminal.specs.Commands.{awaitedOf}
 use Rattle.terminal.specs.Messages.{awaitsData}
 use Rattle.terminal.specs.Settling.{isWithheld, sendingOf}
 use Rattle.terminal.specs.Rules.{firstPhase, begunOf, stagedOf, movedOf}

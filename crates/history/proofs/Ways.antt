@@ -8,11 +8,11 @@ use lib.Dec.{eqb, ltb, leb}
 use lib.ListN.{length, take, length-append, length-set}
 use lib.Seq.{take-suc-set}
 use borrow.Author.Tests.{le-ltb, lt-ltb, lt-leb, eq-eqb, ne-eqb, eqb-false, not-true}
-use Rattle.words.specs.Words.{dueDistance, spacingMost, commandSync, dataSync}
+use Rattle.words.specs.Words.{dueDistance, spacingMost, commandSync, dataSync, awaitedOf}
 use Rattle.words.proofs.Truth.{and-both}
 use Rattle.records.specs.declared.forms.WordRecord.{WordRecord}
 use Rattle.terminal.specs.States.{noSending}
-use Rattle.terminal.specs.Commands.{isValidRecord, isOwn, awaitedOf}
+use Rattle.terminal.specs.Commands.{isValidRecord, isOwn}
 use Rattle.terminal.specs.Messages.{isUnderWay, isOn, isCounting, awaitsData, isWhole, isDue, isLate, isSending, isNextData, isSecond}
 use Rattle.terminal.specs.Settling.{noAnswer}
 use Rattle.terminal.specs.Effects.{withSelftest}

@@ -5,12 +5,12 @@ use mathlib.Core.Bool.{Bool, true, false, not, _&&_, _||_}
 use mathlib.Core.List.{List, []}
 use lib.Dec.{ltb}
 use borrow.Author.Tests.{ltb-true, lt-leb, not-true}
-use Rattle.words.specs.Words.{withFlag}
+use Rattle.words.specs.Words.{withFlag, awaitedOf}
 use Rattle.words.specs.declared.statuses.Flag.the-variants.{MessageError}
 use Rattle.words.proofs.Flags.{flag-alone}
 use Rattle.words.proofs.Truth.{and-both}
 use Rattle.records.specs.declared.forms.WordRecord.{WordRecord}
-use Rattle.terminal.specs.Commands.{isOwn, isExempt, awaitedOf}
+use Rattle.terminal.specs.Commands.{isOwn, isExempt}
 use Rattle.terminal.specs.Messages.{isOn, isCounting, awaitsData, isWhole, isDue, isLate, isNextData, isSecond}
 use Rattle.terminal.specs.Rules.{rule1, faultyOf, rule2, rule3, nextData, nextWord, rule5, rules3to6}
 use Rattle.terminal.specs.Events.{timeOf, atTime, passedOf, takenOf}

@@ -8,11 +8,11 @@ use mathlib.Core.List.{List, [], _∷_, _++_}
 use lib.Dec.{T}
 use lib.ListN.{length}
 use lib.Seq.{paste}
-use Rattle.words.specs.Words.{dueDistance, gapOf, wordsOf, hasFlag, withFlag}
+use Rattle.words.specs.Words.{dueDistance, gapOf, wordsOf, hasFlag, withFlag, awaitedOf}
 use Rattle.words.specs.declared.statuses.Flag.the-variants.{MessageError}
 use Rattle.records.specs.declared.forms.WordRecord.{WordRecord}
 use Rattle.terminal.specs.States.{noSending}
-use Rattle.terminal.specs.Commands.{isOwn, isExempt, awaitedOf}
+use Rattle.terminal.specs.Commands.{isOwn, isExempt}
 use Rattle.terminal.specs.Messages.{isUnderWay, isOn, isSending}
 use Rattle.terminal.specs.Settling.{otherBus, settledStatus, firstPlace, replyOf, storesData, noAnswer}
 use Rattle.terminal.specs.Rules.{begunOf, rule3}

@@ -5,9 +5,9 @@ use mathlib.Core.Bool.{Bool, true, false, not, _&&_, _||_}
 use mathlib.Core.List.{List}
 use lib.Dec.{eqb}
 use lib.ListN.{length}
-use Rattle.words.specs.Words.{onClock, addressOf, isBroadcast, isTransmit, isMode, hasNoOther}
+use Rattle.words.specs.Words.{onClock, addressOf, isBroadcast, isTransmit, isMode, hasNoOther, awaitedOf}
 use Rattle.records.specs.declared.forms.WordRecord.{WordRecord}
-use Rattle.terminal.specs.Commands.{isOwn, isExempt, awaitedOf}
+use Rattle.terminal.specs.Commands.{isOwn, isExempt}
 use Rattle.terminal.specs.Messages.{isUnderWay, isOn, awaitsData, isLate, isNextData, isSecond, isStatusFrom}
 use Rattle.terminal.specs.Rules.{rule3}
 use Rattle.terminal.specs.Events.{timeOf, passedOf}

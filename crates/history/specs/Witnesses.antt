@@ -5,10 +5,9 @@ use Prim.Native.Nat.{ℕ, _+_, _-_, _^_, _≤_}
 use mathlib.Core.Bool.{Bool, true, false, not, _&&_}
 use mathlib.Core.List.{List, [], _∷_, _++_}
 use lib.ListN.{length, replicate}
-use Rattle.words.specs.Words.{dueDistance, parityOf, commandSync}
+use Rattle.words.specs.Words.{dueDistance, parityOf, commandSync, awaitedOf}
 use Rattle.records.specs.declared.forms.WordRecord.{WordRecord}
 use Rattle.terminal.specs.States.{freshOf}
-use Rattle.terminal.specs.Commands.{awaitedOf}
 use Rattle.terminal.specs.Events.{timeOf, eventOf}
 use Rattle.terminal.specs.Cards.{mark, heard, command, dataWord, badWord, zeros}
 use Rattle.terminal.specs.declared.states.Terminal.{Terminal as State}

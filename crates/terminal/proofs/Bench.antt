@@ -1,11 +1,11 @@
 -- The bench cards, by computation. Assumes nothing.
 use lib.Count.{onesIn}
-use Rattle.words.specs.Words.{isOdd, parityOf, wordsOf, isMode, isSpaced, plusOf, hasFlag, withFlag, isValid}
+use Rattle.words.specs.Words.{isOdd, parityOf, wordsOf, isMode, isSpaced, plusOf, hasFlag, withFlag, isValid, awaitedOf}
 use Rattle.words.specs.Modes.{rows, found, listingOf, allows, isAllowed}
 use Rattle.words.specs.Masks.{maskAllows}
 use Rattle.words.specs.Cards.{wordCards}
 use Rattle.words.specs.Cards as words
-use Rattle.terminal.specs.Commands.{isOwn, isExempt, maskOf, isHeldIllegal, isLegal, awaitedOf}
+use Rattle.terminal.specs.Commands.{isOwn, isExempt, maskOf, isHeldIllegal, isLegal}
 use Rattle.terminal.specs.Messages.{isOn, awaitsData, isWhole, isDue, isLate, isSending, isNextData, isSecond, isStatusFrom}
 use Rattle.terminal.specs.Settling.{otherBus, settledStatus, modeWords, legalReply, replyOf, storesData, storedOf, isWithheld, answerOf, sendingOf}
 use Rattle.terminal.specs.Effects.{effectOf, heldAfter}

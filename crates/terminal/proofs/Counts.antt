@@ -8,8 +8,8 @@ use lib.Dec.{eqb, leb, ltb}
 use borrow.Author.Tests.{ltb-true, leb-true}
 use Rattle.words.proofs.Counts.{words-most}
 use Rattle.words.proofs.Truth.{and-both, cond-most}
-use Rattle.words.specs.Words.{codeOf, wordsOf, isTransmit, isMode}
-use Rattle.terminal.specs.Commands.{awaitedOf, isLegal}
+use Rattle.words.specs.Words.{codeOf, wordsOf, isTransmit, isMode, awaitedOf}
+use Rattle.terminal.specs.Commands.{isLegal}
 use Rattle.terminal.specs.Messages.{isCounting, awaitsData, isWhole, isDue}
 use Rattle.terminal.specs.Settling.{noWords, oneWord, tableWords, modeWords, legalReply, replyOf}
 use Rattle.terminal.specs.declared.states.Message.{Message}

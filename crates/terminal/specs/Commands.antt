@@ -1,9 +1,9 @@
 -- Document 01, "The terminal": what a command is to the terminal. Assumes nothing.
 use Prim.Native.Nat.{ℕ}
 use mathlib.Core.Bool.{Bool, not, cond, _&&_, _||_}
-use lib.Dec.{eqb, leb}
+use lib.Dec.{eqb}
 use lib.ListN.{getD}
-use Rattle.words.specs.Words.{addressOf, subaddressOf, countOf, codeOf, wordsOf, isTransmit, isMode, isBroadcast, isValid, commandSync}
+use Rattle.words.specs.Words.{addressOf, subaddressOf, countOf, codeOf, isTransmit, isMode, isBroadcast, isValid, commandSync}
 use Rattle.words.specs.Modes.{isAllowed}
 use Rattle.words.specs.Masks.{maskAllows}
 use Rattle.records.specs.declared.forms.WordRecord.{WordRecord}
@@ -38,7 +38,3 @@ unfoldable pub isLegal : Setup → ℕ → Bool
 isLegal setup word =
     maskAllows (maskOf setup word) (countOf word)
     && not (cond (isMode word) (isHeldIllegal word) (isTransmit word && isBroadcast word))
-
--- "Awaited data words: the count for receive, one for a T/R 0 mode code of 16 or more, else none."
-unfoldable pub awaitedOf : ℕ → ℕ
-awaitedOf word = cond (isTransmit word) 0 (cond (isMode word) (cond (leb 16 (codeOf word)) 1 0) (wordsOf word))

@@ -2,9 +2,9 @@
 use Prim.Native.Nat.{ℕ, _+_, _*_}
 use mathlib.Core.Bool.{Bool, true, false, not, _&&_, _||_}
 use lib.Dec.{eqb, ltb, leb}
-use Rattle.words.specs.Words.{dueDistance, spacingMost, wordTicks, addressOf, countOf, isTransmit, isMode, isBroadcast, isSpaced, commandSync, dataSync}
+use Rattle.words.specs.Words.{dueDistance, spacingMost, wordTicks, addressOf, countOf, isTransmit, isMode, isBroadcast, isSpaced, commandSync, dataSync, awaitedOf}
 use Rattle.records.specs.declared.forms.WordRecord.{WordRecord}
-use Rattle.terminal.specs.Commands.{isValidRecord, awaitedOf}
+use Rattle.terminal.specs.Commands.{isValidRecord}
 use Rattle.terminal.specs.declared.states.Phase.{Phase}
 use Rattle.terminal.specs.declared.states.Phase.the-variants.{Idle, First, Pledged, Data}
 use Rattle.terminal.specs.declared.states.Message.{Message}

@@ -1,7 +1,7 @@
-// What a command is to the terminal: own, exempt, legal, and how many data words it awaits (01 The terminal). Meaning:
+// What a command is to the terminal: own, exempt, legal (01 The terminal). Meaning:
 // specs/Commands.antt. Refusals: none.
 ghost use mathlib.Core.Path.{_≡_};
-ghost use Rattle.terminal.specs.Commands.{isValidRecord, isOwn, isExempt, maskOf, isHeldIllegal, isLegal, awaitedOf};
+ghost use Rattle.terminal.specs.Commands.{isValidRecord, isOwn, isExempt, maskOf, isHeldIllegal, isLegal};
 use crate::states::Setup;
 use records::WordRecord;
 use words::COMMAND_SYNC;
@@ -65,17 +65,4 @@ pub(crate) fn is_legal(setup: Setup, command: CommandWord) -> bool
     } else {
         allowed & !(command.is_transmit() & command.is_broadcast())
     }
-}
-
-// Gives how many data words the command awaits.
-pub(crate) fn awaited(command: CommandWord) -> u16
-    ensures count { λ r. ⌜ r ≡ awaitedOf (command .0) ⌝ }
-{
-    if command.is_transmit() {
-        return 0;
-    }
-    if command.is_mode() {
-        return if command.count() < 16 { 0 } else { 1 };
-    }
-    command.words()
 }

@@ -2,7 +2,6 @@
 // Refusals: none.
 ghost use mathlib.Core.Path.{_≡_};
 ghost use Rattle.terminal.specs.Messages.{isUnderWay, isOn, isCounting, awaitsData, isWhole, isDue, isLate, isSending, isNextData, isSecond, isStatusFrom};
-use crate::commands::awaited;
 use crate::commands::is_valid_record;
 use crate::states::Message;
 use crate::states::Phase;
@@ -56,7 +55,8 @@ impl Message {
         ensures answer { λ r. ⌜ r ≡ awaitsData self ⌝ }
     {
         let phase = self.phase;
-        phase.is_counting() & (self.got < awaited(self.command))
+        let command = self.command;
+        phase.is_counting() & (self.got < command.awaited())
     }
 
     // Says whether all words have come.
@@ -64,7 +64,8 @@ impl Message {
         ensures answer { λ r. ⌜ r ≡ isWhole self ⌝ }
     {
         let phase = self.phase;
-        phase.is_counting() & (awaited(self.command) <= self.got)
+        let command = self.command;
+        phase.is_counting() & (command.awaited() <= self.got)
     }
 
     // Says whether the due time is at most that.

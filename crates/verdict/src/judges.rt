@@ -51,6 +51,16 @@ impl Plan {
         Refusal::OUT_OF_ORDER
     }
 
+    // Gives what the returned record at that place shows, counted from 0, the word before it at that moment: GOOD where it shows no fact. So a
+    // verdict is found record by record (`look-by-look`).
+    // Tables: none. Refusals: none; a plan is taken as it is.
+    pub fn fact_at(self, place: u64, last: Moment, heard: WordRecord) -> Verdict
+        ensures fact { λ r. ⌜ r .0 ≡ factOf (expectedAt self place) (last .0) heard ⌝ }
+    {
+        let expected = self.expected(place);
+        expected.fact(last, heard)
+    }
+
     // Gives what the record at this place shows. Most are data words: for them the plan is not asked again.
     fn look(self, sent: u64, place: u64, last: Moment, heard: WordRecord) -> Verdict
         requires { ⌜ sent ≡ sentFirst self ⌝ }
@@ -59,12 +69,13 @@ impl Plan {
         if (place != 0) & (place <= sent) {
             return data_fact(last, heard);
         }
-        let expected = self.expected(place);
-        expected.fact(last, heard)
+        self.fact_at(place, last, heard)
     }
 
-    // Gives the fact that is found, or else the verdict where no record is left.
-    fn finish(self, found: Verdict, place: u64, last: Moment) -> Verdict
+    // Gives the verdict: the fact that was found, or where none was, GOOD, what the plan says where no record is left after so many, the last at that
+    // moment.
+    // Tables: none. Refusals: none; a plan is taken as it is.
+    pub fn finish(self, found: Verdict, place: u64, last: Moment) -> Verdict
         ensures verdict { λ r. ⌜ r .0 ≡ finishOf self (found .0) place (last .0) ⌝ }
     {
         if found.0 != Verdict::GOOD.0 {

@@ -8,4 +8,5 @@ mod verdicts;
 pub use judges::Finding;
 pub use judges::Judged;
 pub use plans::Plan;
+pub use plans::is_pair;
 pub use verdicts::Verdict;

@@ -40,7 +40,8 @@ fn is_single(command: CommandWord) -> bool
 }
 
 // Says whether two commands, a receive and then a transmit, make a plan.
-fn is_pair(first: CommandWord, second: CommandWord) -> bool
+// Tables: none. Refusals: none.
+pub fn is_pair(first: CommandWord, second: CommandWord) -> bool
     ensures answer { λ r. ⌜ r ≡ isPair (first .0) (second .0) ⌝ }
 {
     !first.is_transmit()
@@ -114,7 +115,8 @@ fn back_at(command: CommandWord, place: u64) -> Expected
 
 impl Plan {
     // Says whether the plan is possible.
-    fn is_possible(self) -> bool
+    // Tables: none. Refusals: none.
+    pub fn is_possible(self) -> bool
         ensures answer { λ r. ⌜ r ≡ isPossible self ⌝ }
     {
         if self.commands == 1 {

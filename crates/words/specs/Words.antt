@@ -112,6 +112,10 @@ codeOf word = countOf word
 abbrev pub isTransmit : ℕ → Bool
 isTransmit word = eqb (transmitOf word) 1
 
+-- "Awaited data words: the count for receive, one for a T/R 0 mode code of 16 or more, else none." (01 The terminal)
+unfoldable pub awaitedOf : ℕ → ℕ
+awaitedOf word = cond (isTransmit word) 0 (cond (isMode word) (cond (leb 16 (codeOf word)) 1 0) (wordsOf word))
+
 -- ---- status words
 
 -- "Status: address (5), message error 0400, .. service request 0100, .. broadcast received 0010, busy 0008, subsystem flag 0004, ..

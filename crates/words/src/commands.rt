@@ -1,6 +1,6 @@
 // Command words taken apart and put together (01 Time and words). Meaning: specs/Words.antt. Refusals: none.
 ghost use mathlib.Core.Path.{_≡_};
-ghost use Rattle.words.specs.Words.{addressOf, transmitOf, subaddressOf, countOf, commandOf, wordsOf, isTransmit, isBroadcast, isMode};
+ghost use Rattle.words.specs.Words.{addressOf, transmitOf, subaddressOf, countOf, commandOf, wordsOf, isTransmit, isBroadcast, isMode, awaitedOf};
 use crate::fields::field;
 use crate::fields::placed;
 
@@ -88,5 +88,19 @@ impl CommandWord {
     {
         let subaddress = self.subaddress();
         (subaddress == 0) | (subaddress == 31)
+    }
+    // Gives how many data words come behind the command on its bus, 0 to 32: "the count for receive, one for a T/R 0 mode code of 16 or more,
+    // else none."
+    // Tables: none. Refusals: none.
+    pub fn awaited(self) -> u16
+        ensures count { λ r. ⌜ r ≡ awaitedOf (self .0) ⌝ }
+    {
+        if self.is_transmit() {
+            return 0;
+        }
+        if self.is_mode() {
+            return if self.count() < 16 { 0 } else { 1 };
+        }
+        self.words()
     }
 }

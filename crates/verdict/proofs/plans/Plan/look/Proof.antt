@@ -12,14 +12,11 @@ returns : tie.Need-returns
 unfolding factOf
 returns c = rw (first-data _ _ (rw (c .before .before .pre) at (c .before .if1 .taken)), c .data-fact .ensures)
 
-expected-requires : tie.Need-expected-requires
-expected-requires c κs = search needs
-
-fact-requires : tie.Need-fact-requires
-fact-requires c κs = search needs
+fact-at-requires : tie.Need-fact-at-requires
+fact-at-requires c κs = search needs
 
 returns-2 : tie.Need-returns-2
-returns-2 c = rw (c .fact .ensures, c .before .expected .ensures)
+returns-2 c = c .fact-at .ensures
 
 pub look-spec : {M : Type 1} → statement M
-look-spec = tie.close (tie.spec data-fact-requires returns expected-requires fact-requires returns-2)
+look-spec = tie.close (tie.spec data-fact-requires returns fact-at-requires returns-2)

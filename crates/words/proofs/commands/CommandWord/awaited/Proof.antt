@@ -1,10 +1,10 @@
 -- By the T/R bit, by whether it is a mode command, by the code. Assumes nothing.
 use mathlib.Core.Path.{sym, _∙_}
 use borrow.Author.Tests.{le-leb, lt-leb}
-use Rattle.terminal.specs.Commands.{awaitedOf}
+use Rattle.words.specs.Words.{awaitedOf}
 use borrow.Author.Needs.{needs}
-use Rattle.terminal.proofs.commands.awaited.Statement.{statement}
-use Rattle.terminal.proofs.commands.awaited.Tie as tie
+use Rattle.words.proofs.commands.CommandWord.awaited.Statement.{statement}
+use Rattle.words.proofs.commands.CommandWord.awaited.Tie as tie
 
 is-transmit-requires : tie.Need-is-transmit-requires
 is-transmit-requires c κs = search needs
