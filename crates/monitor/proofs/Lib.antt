@@ -1,2 +1,5 @@
 pub mod Cases
 pub mod Feeding
+pub mod Appends
+pub mod Summaries
+pub mod Groups

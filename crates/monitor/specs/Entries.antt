@@ -35,30 +35,28 @@ isCommand r = isValid (r .sync) (r .faults) (r .word) (r .parity) && eqb (r .syn
 unfoldable pub isDataWord : WordRecord → Bool
 isDataWord r = isValid (r .sync) (r .faults) (r .word) (r .parity) && eqb (r .sync) dataSync
 
--- ---- the commands of an entry
+-- ---- command words
 
--- "the second command word back to back": document 01's, 195 to 205 after a receive command that is no mode command, the very next record of the bus
--- (DECISIONS 38)
+-- "the second command word back to back": document 01's, the very next record of the bus, 195 to 205 after a receive command that is no mode command
+-- (DECISIONS 42)
 unfoldable pub isSecond : WordRecord → WordRecord → Bool
 isSecond first r = isCommand r && isSpaced (first .time .0) (r .time .0) && isPair (first .word) (r .word)
 
--- it has come
-abbrev pub hasSecond : WordRecord → List WordRecord → Bool
-hasSecond first [] = false
-hasSecond first (r ∷ rest) = isSecond first r
-
 -- "command words"
-abbrev pub commandsBy : Bool → WordRecord → List WordRecord → Commands
-commandsBy two first [] = commands.One (record { 0 = first .word })
-commandsBy two first (r ∷ rest) =
-    cond two (commands.Two (record { 0 = first .word }) (record { 0 = r .word })) (commands.One (record { 0 = first .word }))
-
 abbrev pub commandsOf : WordRecord → List WordRecord → Commands
-commandsOf first rest = commandsBy (hasSecond first rest) first rest
+commandsOf first [] = commands.One (record { 0 = first .word })
+commandsOf first (r ∷ rest) =
+    cond (isSecond first r) (commands.Two (record { 0 = first .word }) (record { 0 = r .word })) (commands.One (record { 0 = first .word }))
 
--- the records behind the command words
+-- the last of them
+abbrev pub lastCommand : WordRecord → List WordRecord → WordRecord
+lastCommand first [] = first
+lastCommand first (r ∷ rest) = cond (isSecond first r) r first
+
+-- the records behind them
 abbrev pub behindOf : WordRecord → List WordRecord → List WordRecord
-behindOf first rest = cond (hasSecond first rest) (drop 1 rest) rest
+behindOf first [] = []
+behindOf first (r ∷ rest) = cond (isSecond first r) rest (r ∷ rest)
 
 -- ---- statuses
 
@@ -67,23 +65,30 @@ abbrev pub statusesIn : List WordRecord → List WordRecord
 statusesIn [] = []
 statusesIn (r ∷ rs) = cond (isCommand r) (r ∷ statusesIn rs) (statusesIn rs)
 
--- one of them is from that address
-abbrev pub isFromIn : ℕ → List WordRecord → Bool
-isFromIn address [] = false
-isFromIn address (r ∷ rs) = eqb (addressOf (r .word)) address || isFromIn address rs
+-- an entry has at most two: `statuses-few`
+abbrev pub statusesBy : List WordRecord → Statuses
+statusesBy [] = statuses.None
+statusesBy (r ∷ []) = statuses.One (record { 0 = r .word })
+statusesBy (r ∷ s ∷ rs) = statuses.Two (record { 0 = r .word }) (record { 0 = s .word })
 
--- a command goes to that address
+abbrev pub statusesOf : WordRecord → List WordRecord → Statuses
+statusesOf first rest = statusesBy (statusesIn (behindOf first rest))
+
+-- a command goes to that address; a status is from it
 unfoldable pub isFor : Commands → ℕ → Bool
 isFor (commands.One first) address = eqb (addressOf (first .0)) address
 isFor (commands.Two first second) address = eqb (addressOf (first .0)) address || eqb (addressOf (second .0)) address
 
--- "a command of that bus's open entry still expects a status from that word's address": one from each address that is not 31, from the moment its command
--- came until a valid word with command sync from there was taken (DECISIONS 39)
+unfoldable pub isFrom : Statuses → ℕ → Bool
+isFrom statuses.None address = false
+isFrom (statuses.One first) address = eqb (addressOf (first .0)) address
+isFrom (statuses.Two first second) address = eqb (addressOf (first .0)) address || eqb (addressOf (second .0)) address
+
+-- "a command of that bus's open entry still expects a status from that word's address": one from each address but 31, from the moment its command came
+-- until a valid word with command sync from there was taken (DECISIONS 43)
 unfoldable pub expects : WordRecord → List WordRecord → WordRecord → Bool
 expects first rest r =
-    not (isBroadcast (r .word))
-    && isFor (commandsOf first rest) (addressOf (r .word))
-    && not (isFromIn (addressOf (r .word)) (statusesIn (behindOf first rest)))
+    not (isBroadcast (r .word)) && isFor (commandsOf first rest) (addressOf (r .word)) && not (isFrom (statusesOf first rest) (addressOf (r .word)))
 
 -- ---- what a record of its bus is to an open entry
 
@@ -92,14 +97,15 @@ abbrev pub lastIn : WordRecord → List WordRecord → WordRecord
 lastIn first [] = first
 lastIn first (r ∷ rest) = lastIn r rest
 
-abbrev pub lastTime : WordRecord → List WordRecord → ℕ
-lastTime first rest = lastIn first rest .time .0
+-- "more than 320 ticks after the entry's last"
+unfoldable pub isFar : WordRecord → List WordRecord → WordRecord → Bool
+isFar first rest r = ltb noResponseDistance (sinceOf (lastIn first rest .time .0) (r .time .0))
 
--- "a record more than 320 ticks after the entry's last (tested first ..)"; "a valid word with command sync starts one unless a command of that bus's open
--- entry still expects a status from that word's address or still awaits the second command word back to back (tried first)"
+-- "(tested first ..)"; "a valid word with command sync starts one unless a command of that bus's open entry still expects a status from that word's address
+-- or still awaits the second command word back to back (tried first)"
 unfoldable pub partOf : WordRecord → List WordRecord → WordRecord → Part
 partOf first rest r =
-    cond (ltb noResponseDistance (sinceOf (lastTime first rest) (r .time .0))) Far
+    cond (isFar first rest r) Far
     (cond (not (isCommand r)) Other
     (cond (eqb (length rest) 0 && isSecond first r) Second
     (cond (expects first rest r) Status Starts)))
@@ -108,12 +114,8 @@ partOf first rest r =
 
 -- how many: those that document 01 awaits behind the command, none behind a second one
 abbrev pub ownNumber : WordRecord → List WordRecord → ℕ
-ownNumber first rest = cond (hasSecond first rest) 0 (awaitedOf (first .word))
-
--- the last command word
-abbrev pub lastCommand : WordRecord → List WordRecord → WordRecord
-lastCommand first [] = first
-lastCommand first (r ∷ rest) = cond (isSecond first r) r first
+ownNumber first [] = awaitedOf (first .word)
+ownNumber first (r ∷ rest) = cond (isSecond first r) 0 (awaitedOf (first .word))
 
 -- "invalid or badly spaced": one among the first so many, the word before them at that time
 abbrev pub isSpoiled : ℕ → ℕ → List WordRecord → Bool
@@ -129,7 +131,7 @@ abbrev pub ownBad : WordRecord → List WordRecord → Bool
 ownBad first rest =
     isSpoiled (ownNumber first rest) (lastCommand first rest .time .0) (behindOf first rest) || isShort (ownNumber first rest) (behindOf first rest)
 
--- E of document 01, the time of the last of them, or of the last command word
+-- the last of them, or the last command word: its time is E of document 01
 abbrev pub ownLast : WordRecord → List WordRecord → WordRecord
 ownLast first rest = lastIn (lastCommand first rest) (take (ownNumber first rest) (behindOf first rest))
 
@@ -138,7 +140,7 @@ returnedIn first rest = drop (ownNumber first rest) (behindOf first rest)
 
 -- ---- the verdict
 
--- "two records have one time": in the order of the file they stand side by side
+-- "two records have one time": as none is earlier than the one before it, they stand side by side
 abbrev pub hasTwins : WordRecord → List WordRecord → Bool
 hasTwins first [] = false
 hasTwins first (r ∷ rest) = eqb (r .time .0) (first .time .0) || hasTwins r rest
@@ -162,13 +164,13 @@ outcomeIn first rest until =
 
 -- ---- "Each entry has bus, time, command words, statuses .., numbers of valid data words and of records, the gap before the first status, and the verdict"
 
--- A gap runs from 180 ticks after a word's time "to the next word's time" (01 Time and words); below 0 where the two overlap (house).
+-- A gap runs from 180 ticks after a word's time "to the next word's time" (01 Time and words); a word that comes before that has it below 0 (house).
 unfoldable pub gapFrom : ℕ → ℕ → Gap
 gapFrom before after =
     cond (leb parityMiddle (sinceOf before after)) (gap.Apart (record { 0 = sinceOf before after - parityMiddle }))
     (gap.Overlap (record { 0 = parityMiddle - sinceOf before after }))
 
--- "the gap before the first status": from the record just before it, valid or not (DECISIONS 40)
+-- "the gap before the first status": from the record just before it, valid or not (DECISIONS 44)
 abbrev pub gapBefore : ℕ → List WordRecord → Gap
 gapBefore before [] = gap.None
 gapBefore before (r ∷ rs) = cond (isCommand r) (gapFrom before (r .time .0)) (gapBefore (r .time .0) rs)
@@ -178,18 +180,12 @@ abbrev pub dataWords : List WordRecord → ℕ
 dataWords [] = 0
 dataWords (r ∷ rs) = cond (isDataWord r) 1 0 + dataWords rs
 
--- at most two: each is from another address of the commands (`statuses-few`)
-abbrev pub statusesBy : List WordRecord → Statuses
-statusesBy [] = statuses.None
-statusesBy (r ∷ []) = statuses.One (record { 0 = r .word })
-statusesBy (r ∷ s ∷ rs) = statuses.Two (record { 0 = r .word }) (record { 0 = s .word })
-
 unfoldable pub messageOf : WordRecord → List WordRecord → Moment → Message
 messageOf first rest until = record {
   bus = first .bus;
   time = first .time;
   commands = commandsOf first rest;
-  statuses = statusesBy (statusesIn (behindOf first rest));
+  statuses = statusesOf first rest;
   words = dataWords rest;
   records = length (first ∷ rest);
   gap = gapBefore (lastCommand first rest .time .0) (behindOf first rest);

@@ -2,4 +2,5 @@
 pub mod Entries
 pub mod Logs
 pub mod Machine
+
 -- pub mod Theorems

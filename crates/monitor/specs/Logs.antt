@@ -8,10 +8,13 @@ use Rattle.words.specs.Words.{noResponseDistance}
 use Rattle.words.specs.Refusals.{notRefused, refusedOutOfOrder}
 use Rattle.words.specs.declared.times.Moment.{Moment}
 use Rattle.records.specs.Records.{recordBytes, readOf}
+use Rattle.records.specs.Files.{openOf}
+use Rattle.records.specs.declared.files.Opened.{Opened}
+use Rattle.records.specs.declared.files.Opened.the-variants as opened
 use Rattle.records.specs.declared.forms.WordRecord.{WordRecord}
 use Rattle.records.specs.declared.forms.Read.{Read}
 use Rattle.records.specs.declared.forms.Read.the-variants as read
-use Rattle.monitor.specs.Entries.{isCommand, partOf, lastTime, entryOf}
+use Rattle.monitor.specs.Entries.{isCommand, lastIn, isFar, partOf, entryOf}
 use Rattle.monitor.specs.declared.entries.Logged.{Logged}
 use Rattle.monitor.specs.declared.openings.Part.{Part}
 use Rattle.monitor.specs.declared.openings.Part.the-variants.{Far, Starts, Second, Status, Other}
@@ -37,17 +40,8 @@ heardOn bus place [] = []
 heardOn bus place (r ∷ rs) =
     cond (eqb (r .bus) bus) (record { place = place; heard = r } ∷ heardOn bus (suc place) rs) (heardOn bus (suc place) rs)
 
--- "An entry closes when that bus brings a starting command (Q is its time) or a record more than 320 ticks after the entry's last (..; Q is that last plus
--- 320)"
-abbrev pub closesAt : Part → WordRecord → List WordRecord → WordRecord → Moment
-closesAt Far first rest r = record { 0 = lastTime first rest + noResponseDistance }
-closesAt Starts first rest r = r .time
-closesAt Second first rest r = r .time
-closesAt Status first rest r = r .time
-closesAt Other first rest r = r .time
-
--- what a record is to the entry of a first record: "A record outside any message is an entry of its own" and opens nothing, so that the next record of the
--- bus starts another
+-- what a record is to the entry that a first record begins: "A record outside any message is an entry of its own" and opens nothing, so that the next
+-- one of the bus begins another
 unfoldable pub partIn : WordRecord → List WordRecord → WordRecord → Part
 partIn first rest r = cond (isCommand first) (partOf first rest r) Starts
 
@@ -59,20 +53,25 @@ belongs Second = true
 belongs Status = true
 belongs Other = true
 
+-- "An entry closes when that bus brings a starting command (Q is its time) or a record more than 320 ticks after the entry's last (..; Q is that last plus
+-- 320)"
+unfoldable pub closesAt : WordRecord → List WordRecord → WordRecord → Moment
+closesAt first rest r = cond (isFar first rest r) (record { 0 = lastIn first rest .time .0 + noResponseDistance }) (r .time)
+
 -- The groups of one bus's records, an entry being open; "or at the end of file (Q is the time of the file's last record)".
 unfoldable pub groupsFrom : Moment → ℕ → WordRecord → List WordRecord → List Placed → List Group
 groupsFrom end place first rest [] = record { place = place; first = first; rest = rest; until = end } ∷ []
 groupsFrom end place first rest (p ∷ ps) =
     cond (belongs (partIn first rest (p .heard)))
     (groupsFrom end place first (rest ++ (p .heard ∷ [])) ps)
-    (record { place = place; first = first; rest = rest; until = closesAt (partIn first rest (p .heard)) first rest (p .heard) }
+    (record { place = place; first = first; rest = rest; until = closesAt first rest (p .heard) }
     ∷ groupsFrom end (p .place) (p .heard) [] ps)
 
 abbrev pub groupsOf : Moment → List Placed → List Group
 groupsOf end [] = []
 groupsOf end (p ∷ ps) = groupsFrom end (p .place) (p .heard) [] ps
 
--- the time of the last of some records, of either bus
+-- the time of the last of some records, of either bus, or that before them
 abbrev pub endTime : Moment → List WordRecord → Moment
 endTime before [] = before
 endTime before (r ∷ rs) = endTime (r .time) rs
@@ -84,16 +83,16 @@ abbrev pub loggedOf : Group → Logged
 loggedOf g = record { place = g .place; entry = entryOf (g .first) (g .rest) (g .until) }
 
 -- the entries of one bus
-abbrev pub logged : List Group → List Logged
-logged [] = []
-logged (g ∷ gs) = loggedOf g ∷ logged gs
+abbrev pub entriesOf : List Group → List Logged
+entriesOf [] = []
+entriesOf (g ∷ gs) = loggedOf g ∷ entriesOf gs
 
 unfoldable pub entriesOn : ℕ → List WordRecord → List Logged
-entriesOn bus rs = logged (groupsOn bus rs)
+entriesOn bus rs = entriesOf (groupsOn bus rs)
 
 -- ---- "Entries come in order of their first record in the file."
 
--- an entry and those after it on its bus, among those of the other bus: the lower place comes first
+-- an entry among those of the other bus: the lower place comes first; `after` puts those after it on its bus among what is left of the others
 abbrev pub among : Logged → (List Logged → List Logged) → List Logged → List Logged
 among e after [] = e ∷ after []
 among e after (f ∷ fs) = cond (ltb (e .place) (f .place)) (e ∷ after (f ∷ fs)) (f ∷ among e after fs)
@@ -119,12 +118,12 @@ stops n = record { taken = []; refusal = n }
 abbrev pub goesOn : WordRecord → Front → Front
 goesOn r front = record { taken = r ∷ front .taken; refusal = front .refusal }
 
--- 6 comes after 3, 4, 5 of the same record (house); the one before is of either bus
+-- 6 comes after 3, 4, 5 of the same record, and of either bus; whatever the refusal, the file is read up to it and no further (DECISIONS 45)
 abbrev pub frontWith : ℕ → Read → (ℕ → Front) → Front
 frontWith before (read.Record r) after = cond (ltb (r .time .0) before) (stops refusedOutOfOrder) (goesOn r (after (r .time .0)))
 frontWith before (read.Refused n) after = stops (n .0)
 
--- of bytes behind the version byte, at most so many records: there are never more than bytes
+-- of bytes behind the version byte, at most so many records: there are never more records than bytes
 unfoldable pub frontFrom : ℕ → ℕ → List ℕ → Front
 frontFrom zero before bytes = stops notRefused
 frontFrom (suc n) before bytes =
@@ -132,3 +131,21 @@ frontFrom (suc n) before bytes =
 
 unfoldable pub frontOf : List ℕ → Front
 frontOf bytes = frontFrom (length bytes) 0 bytes
+
+-- ---- "It reads a record file"
+
+-- The log of a file: its entries, how many records they are, and the refusal that ended it, 0 at the end of the file.
+pub record FileLog : Type 0 where
+  pub entries : List Logged
+  pub records : ℕ
+  pub refusal : ℕ
+
+abbrev pub logged : Front → FileLog
+logged front = record { entries = logOf (front .taken); records = length (front .taken); refusal = front .refusal }
+
+abbrev pub logAt : Opened → List ℕ → FileLog
+logAt (opened.At c) file = logged (frontOf (drop (c .at) file))
+logAt (opened.Refused n) file = record { entries = []; records = 0; refusal = n .0 }
+
+unfoldable pub fileLog : List ℕ → FileLog
+fileLog file = logAt (openOf file) file

@@ -20,7 +20,7 @@ use Rattle.verdict.specs.Numbers.{good}
 use Rattle.verdict.specs.Facts.{factOf}
 use Rattle.verdict.specs.Verdicts.{expectedAt, finishOf}
 use Rattle.verdict.specs.declared.verdicts.Verdict.{Verdict}
-use Rattle.monitor.specs.Entries.{isCommand, isDataWord, isFor, planWith, gapFrom}
+use Rattle.monitor.specs.Entries.{isCommand, isDataWord, isFor, isFrom, planWith, gapFrom}
 use Rattle.monitor.specs.declared.entries.Commands.{Commands}
 use Rattle.monitor.specs.declared.entries.Commands.the-variants as commands
 use Rattle.monitor.specs.declared.entries.Statuses.{Statuses}
@@ -57,12 +57,6 @@ abbrev pub next64 : ℕ → ℕ
 next64 n = sum64 n 1
 
 -- ---- a message that is open
-
--- A status is from that address.
-unfoldable pub isFrom : Statuses → ℕ → Bool
-isFrom statuses.None address = false
-isFrom (statuses.One first) address = eqb (addressOf (first .0)) address
-isFrom (statuses.Two first second) address = eqb (addressOf (first .0)) address || eqb (addressOf (second .0)) address
 
 -- One status more; no message has a third.
 unfoldable pub withStatus : Statuses → StatusWord → Statuses
@@ -114,8 +108,17 @@ headsSecond h second = record { commands = withSecond (h .commands) second; stat
 -- The second command: none of the controller's data words follow it.
 unfoldable pub heardSecond : Opening → WordRecord → Opening
 heardSecond o r = record {
-  bus = o .bus; time = o .time; heads = headsSecond (o .heads) (record { 0 = r .word }); words = o .words; records = o .records; last = o .last;
-  left = 0; spoiled = o .spoiled; twins = o .twins; returned = o .returned; found = o .found;
+  bus = o .bus;
+  time = o .time;
+  heads = headsSecond (o .heads) (record { 0 = r .word });
+  words = o .words;
+  records = o .records;
+  last = o .last;
+  left = 0;
+  spoiled = o .spoiled;
+  twins = o .twins;
+  returned = o .returned;
+  found = o .found;
 }
 
 -- Before the first status the gap.
@@ -136,15 +139,32 @@ headsStatus h last r = record {
 
 unfoldable pub heardStatus : Opening → WordRecord → Opening
 heardStatus o r = record {
-  bus = o .bus; time = o .time; heads = headsStatus (o .heads) (o .last) r; words = o .words; records = o .records; last = o .last;
-  left = o .left; spoiled = o .spoiled; twins = o .twins; returned = o .returned; found = o .found;
+  bus = o .bus;
+  time = o .time;
+  heads = headsStatus (o .heads) (o .last) r;
+  words = o .words;
+  records = o .records;
+  last = o .last;
+  left = o .left;
+  spoiled = o .spoiled;
+  twins = o .twins;
+  returned = o .returned;
+  found = o .found;
 }
 
 -- Where one of the controller's own data words is to come.
 unfoldable pub heardOwn : Opening → WordRecord → Opening
 heardOwn o r = record {
-  bus = o .bus; time = o .time; heads = o .heads; words = o .words; records = o .records; last = o .last;
-  left = o .left - 1; spoiled = o .spoiled || not (isDataWord r && isSpaced (o .last .0) (r .time .0)); twins = o .twins; returned = o .returned;
+  bus = o .bus;
+  time = o .time;
+  heads = o .heads;
+  words = o .words;
+  records = o .records;
+  last = o .last;
+  left = o .left - 1;
+  spoiled = o .spoiled || not (isDataWord r && isSpaced (o .last .0) (r .time .0));
+  twins = o .twins;
+  returned = o .returned;
   found = o .found;
 }
 
@@ -155,8 +175,17 @@ foundWith o r =
 
 unfoldable pub heardReturned : Opening → WordRecord → Opening
 heardReturned o r = record {
-  bus = o .bus; time = o .time; heads = o .heads; words = o .words; records = o .records; last = o .last;
-  left = o .left; spoiled = o .spoiled; twins = o .twins; returned = next64 (o .returned); found = record { 0 = foundWith o r };
+  bus = o .bus;
+  time = o .time;
+  heads = o .heads;
+  words = o .words;
+  records = o .records;
+  last = o .last;
+  left = o .left;
+  spoiled = o .spoiled;
+  twins = o .twins;
+  returned = next64 (o .returned);
+  found = record { 0 = foundWith o r };
 }
 
 unfoldable pub heardWord : Opening → WordRecord → Opening
@@ -165,9 +194,17 @@ heardWord o r = cond (eqb (o .left) 0) (heardReturned o r) (heardOwn o r)
 -- What every record counts for.
 unfoldable pub counted : Opening → WordRecord → Opening
 counted o r = record {
-  bus = o .bus; time = o .time; heads = o .heads; words = sum64 (o .words) (cond (isDataWord r) 1 0);
-  records = next64 (o .records); last = r .time; left = o .left; spoiled = o .spoiled; twins = o .twins || eqb (r .time .0) (o .last .0);
-  returned = o .returned; found = o .found;
+  bus = o .bus;
+  time = o .time;
+  heads = o .heads;
+  words = sum64 (o .words) (cond (isDataWord r) 1 0);
+  records = next64 (o .records);
+  last = r .time;
+  left = o .left;
+  spoiled = o .spoiled;
+  twins = o .twins || eqb (r .time .0) (o .last .0);
+  returned = o .returned;
+  found = o .found;
 }
 
 unfoldable pub joinedBy : Opening → Part → WordRecord → Opening

@@ -1,8 +1,8 @@
 // The entries of a log, and what is asked of one record and of a message's command words (02 a). Meaning: specs/Entries.antt. Refusals: none.
 ghost use mathlib.Core.Path.{_≡_};
 ghost use mathlib.Core.Bool.{cond};
-ghost use Rattle.monitor.specs.Entries.{isCommand, isDataWord, isFor, planWith, gapFrom};
-ghost use Rattle.monitor.specs.Machine.{withSecond, isFrom, withStatus};
+ghost use Rattle.monitor.specs.Entries.{isCommand, isDataWord, isFor, isFrom, planWith, gapFrom};
+ghost use Rattle.monitor.specs.Machine.{withSecond, withStatus};
 use records::WordRecord;
 use verdict::Plan;
 use verdict::Verdict;
@@ -26,7 +26,7 @@ pub enum Statuses {
     Two(StatusWord, StatusWord),
 }
 
-// "the gap before the first status": none without a status; below 0 where the status overlaps the word before it by so many ticks.
+// "the gap before the first status": none without a status; below 0, by so many ticks, where it comes before the middle of the last one's parity bit.
 pub enum Gap {
     None,
     Apart(Ticks),

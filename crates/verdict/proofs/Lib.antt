@@ -7,3 +7,4 @@ pub mod Ranges
 pub mod Longer
 pub mod Goods
 pub mod Prefixes
+pub mod Looks

@@ -1,7 +1,7 @@
 -- What holds of verdicts beyond each function's own promise, proved in proofs/ under the name at its side. Assumes nothing.
-use Prim.Native.Nat.{ℕ, _≤_}
+use Prim.Native.Nat.{ℕ, suc, _≤_}
 use mathlib.Core.Path.{_≡_}
-use mathlib.Core.Bool.{Bool, true, false, _||_}
+use mathlib.Core.Bool.{Bool, true, false, cond, _||_}
 use mathlib.Core.List.{List, [], _∷_}
 use mathlib.Core.Logic.{_⊎_}
 use lib.Dec.{eqb, ltb}
@@ -13,8 +13,8 @@ use Rattle.words.specs.declared.statuses.Flag.the-variants.{MessageError, Busy}
 use Rattle.records.specs.declared.forms.WordRecord.{WordRecord}
 use Rattle.verdict.specs.Plans.{planRefusal, expectedOf}
 use Rattle.verdict.specs.Numbers.{good, noResponse, waiting, badlySpaced}
-use Rattle.verdict.specs.Facts.{gapLeast, gapMost, listenedLeast}
-use Rattle.verdict.specs.Verdicts.{findingOf, verdictOf, lookedOf, judgedOf}
+use Rattle.verdict.specs.Facts.{gapLeast, gapMost, listenedLeast, factOf}
+use Rattle.verdict.specs.Verdicts.{findingOf, verdictOf, lookedOf, judgedOf, expectedAt, finishOf}
 use Rattle.verdict.specs.declared.judges.Finding.{Finding}
 use Rattle.verdict.specs.declared.judges.Judged.the-variants as judged
 use Rattle.verdict.specs.declared.plans.Plan.{Plan}
@@ -80,6 +80,25 @@ Longer =
     → (g : Finding) × (judgedOf (withUntil plan moment) bytes ≡ judged.Given g)
     × (g .looked ≡ f .looked)
     × ((g .verdict .0 ≡ f .verdict .0) ⊎ ((f .verdict .0 ≡ waiting) × (isFinal (g .verdict .0) ≡ true)))
+
+-- ---- record by record, as the log of 02 a) asks
+
+-- the fact found after some records, where one was found before them or none was, the first of them at that place, the word before it at that time
+abbrev pub foundAfter : Plan → ℕ → ℕ → ℕ → List WordRecord → ℕ
+foundAfter plan found place last [] = found
+foundAfter plan found place last (r ∷ rs) =
+    foundAfter plan (cond (eqb found good) (factOf (expectedAt plan place) last r) found) (suc place) (r .time .0) rs
+
+-- the time of the last record, or of the word before the first
+abbrev pub lastAfter : ℕ → List WordRecord → ℕ
+lastAfter last [] = last
+lastAfter last (r ∷ rs) = lastAfter (r .time .0) rs
+
+-- The verdict is found record by record: look-by-look
+abbrev pub LookByLook : Type 0
+LookByLook =
+    (plan : Plan) (rs : List WordRecord)
+    → finishOf plan (foundAfter plan good 0 (plan .last .0) rs) (length rs) (lastAfter (plan .last .0) rs) ≡ verdictOf plan rs
 
 -- ---- how much is looked at (02 n)
 

@@ -1,5 +1,5 @@
 -- By how many statuses there are. Assumes nothing.
-use Rattle.monitor.specs.Machine.{isFrom}
+use Rattle.monitor.specs.Entries.{isFrom}
 use borrow.Author.Needs.{needs}
 use Rattle.monitor.proofs.entries.Statuses.is_from.Statement.{statement}
 use Rattle.monitor.proofs.entries.Statuses.is_from.Tie as tie
