@@ -3,3 +3,5 @@ pub mod Feeding
 pub mod Appends
 pub mod Summaries
 pub mod Groups
+pub mod Futures
+pub mod Courses

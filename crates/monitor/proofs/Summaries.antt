@@ -410,12 +410,22 @@ module _ (first : WordRecord) (rest : List WordRecord) (until : Moment) where
   pub same-outcome : outcomeOf (openingOf first rest) until ≡ outcomeIn first rest until
   unfolding outcomeOf outcomeIn
   same-outcome =
-      rw (same-verdict, left-short n (length rs), same-possible cs (first .bus) (first .bus) (lastIn first rest .time) until (ownLast first rest .time) until,
-      reorder (isSpoiled n t rs) (hasTwins first rest) (ltb (length rs) n) (not (isPossible (planOf first rest until))))
+      rw (
+        same-verdict,
+        left-short n (length rs),
+        same-possible cs (first .bus) (first .bus) (lastIn first rest .time) until (ownLast first rest .time) until,
+        reorder (isSpoiled n t rs) (hasTwins first rest) (ltb (length rs) n) (not (isPossible (planOf first rest until))),
+      )
 
   pub same-message : closedAt (openingOf first rest) until ≡ messageOf first rest until
   unfolding closedAt messageOf
   same-message = ap (λ (k : Outcome). record {
-      bus = first .bus; time = first .time; commands = commandsOf first rest; statuses = statusesOf first rest; words = dataWords rest;
-      records = length (first ∷ rest); gap = gapBefore (lastCommand first rest .time .0) (behindOf first rest); outcome = k;
-    }) same-outcome
+    bus = first .bus;
+    time = first .time;
+    commands = commandsOf first rest;
+    statuses = statusesOf first rest;
+    words = dataWords rest;
+    records = length (first ∷ rest);
+    gap = gapBefore (lastCommand first rest .time .0) (behindOf first rest);
+    outcome = k;
+  }) same-outcome

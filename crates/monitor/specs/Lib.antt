@@ -2,5 +2,4 @@
 pub mod Entries
 pub mod Logs
 pub mod Machine
-
--- pub mod Theorems
+pub mod Theorems
