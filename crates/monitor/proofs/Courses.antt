@@ -24,7 +24,7 @@ use Rattle.monitor.specs.declared.sides.Choice.{Choice}
 use Rattle.monitor.specs.declared.sides.Choice.the-variants.{FeedFirst, FeedSecond, GiveFirst, GiveSecond, Over}
 use Rattle.monitor.proofs.Summaries.{next-fits}
 use Rattle.monitor.proofs.Groups.{walk-entries}
-use Rattle.monitor.proofs.Futures.{front-fit, front-few, Told, recordsAfter, told, told-wants, told-ended, told-fed, withFirst, told-given, told-over}
+use Rattle.monitor.proofs.Futures.{in-range, front-each, front-few, Told, recordsAfter, told, told-wants, told-ended, told-fed, withFirst, told-given, told-over}
 
 -- ---- what a choice says of the two sides
 
@@ -193,7 +193,7 @@ unfolding told sideStart frontOf
 from-start bus bytes few =
     let taken = frontOf bytes .taken in
     let most : length (frontOf bytes .taken) < 2 ^ 64 = omega (arith, front-few (length bytes) 0 bytes, few) in
-    rw (walk-entries bus taken most (front-fit (length bytes) 0 bytes), records-after taken 0 (omega (arith, most)))
+    rw (walk-entries bus taken most (front-each (λ (r : WordRecord). r .time .0 < 2 ^ 64) (λ r range. omega (arith, in-range r range .0)) (length bytes) 0 bytes), records-after taken 0 (omega (arith, most)))
     (ap (λ (k : ℕ). record { entries = entriesOn bus taken; refusal = frontOf bytes .refusal; records = k }) (omega arith))
 
 pub log-of-the-file : LogOfTheFile

@@ -7,7 +7,7 @@ use mathlib.Core.List.{List, [], _∷_, _++_}
 use lib.Dec.{eqb, ltb, leb}
 use lib.ListN.{length, drop, length-drop, length-append, drop-of-length-le}
 use lib.Seq.{drop-drop, drop-append-le}
-use borrow.Author.Tests.{eq-eqb, ne-eqb, eqb-false, lt-leb, ltb-true, ltb-false}
+use borrow.Author.Tests.{eq-eqb, ne-eqb, eqb-false, lt-leb, leb-true, ltb-true, ltb-false}
 use Rattle.words.specs.Refusals.{refusedOutOfOrder}
 use Rattle.words.specs.declared.times.Moment.{Moment}
 use Rattle.words.specs.declared.refusals.Refusal.{Refusal}
@@ -19,6 +19,7 @@ use Rattle.records.specs.declared.forms.Read.the-variants as read
 use Rattle.records.proofs.Theorems.{read-good, read-front}
 use Rattle.monitor.specs.Logs.{Front, stops, goesOn, frontWith, frontFrom, frontOf}
 use Rattle.monitor.specs.Machine.{next64, begunWith, passedWith, heardAs, heardMessage, heardWhere, heardBy, stoppedBy, takenBy, readWith, readBy, readyWith, readyOf, isFeed, wantsMore, fedFrom, fedOf, endedWith, endedBy, givenOf, foundAt, partFor}
+use Rattle.monitor.specs.Theorems.{Each}
 use Rattle.monitor.specs.declared.entries.Logged.{Logged}
 use Rattle.monitor.specs.declared.openings.Opening.{Opening}
 use Rattle.monitor.specs.declared.openings.Part.{Part}
@@ -34,7 +35,7 @@ use Rattle.monitor.specs.declared.walks.Side.{Side}
 use Rattle.monitor.specs.declared.sides.Fed.{Fed}
 use Rattle.monitor.specs.declared.sides.Ready.the-variants as ready
 use Rattle.monitor.proofs.Feeding.{fed-short, fed-over, fed-one}
-use Rattle.monitor.proofs.Groups.{given, stepBy, walkOver, Fit}
+use Rattle.monitor.proofs.Groups.{given, stepBy, walkOver}
 
 -- ---- the records of some bytes, by any number that is enough for them
 
@@ -74,35 +75,39 @@ front-fuel (suc n) (suc m) before bytes l k =
         with-same before (readOf bytes) (λ (time : ℕ). frontFrom n time (drop 16 bytes)) (λ (time : ℕ). frontFrom m time (drop 16 bytes))
         (λ time. again time (some-length bytes h))
 
-on-clock : (r : WordRecord) → inRange r ≡ true → r .time .0 < 2 ^ 48
-on-clock r h =
+-- what a record in range is known by
+pub in-range : (r : WordRecord) → inRange r ≡ true → (r .time .0 < 2 ^ 48) × (r .bus ≤ 1)
+in-range r h =
     let all = and-both (ltb (r .time .0) (2 ^ 48) && leb (r .bus) 1 && leb (r .sync) 2 && leb (r .faults) 3) (leb (r .parity) 1) h .0 in
     let three = and-both (ltb (r .time .0) (2 ^ 48) && leb (r .bus) 1 && leb (r .sync) 2) (leb (r .faults) 3) all .0 in
     let two = and-both (ltb (r .time .0) (2 ^ 48) && leb (r .bus) 1) (leb (r .sync) 2) three .0 in
-    ltb-true (r .time .0) (2 ^ 48) (and-both (ltb (r .time .0) (2 ^ 48)) (leb (r .bus) 1) two .0)
+    let one = and-both (ltb (r .time .0) (2 ^ 48)) (leb (r .bus) 1) two in
+    (ltb-true (r .time .0) (2 ^ 48) (one .0), leb-true (r .bus) 1 (one .1))
 
--- their times fit, and they are no more than the bytes
-fit-with : (before : ℕ) (bytes : List ℕ) (g : Read) → readOf bytes ≡ g → (f : ℕ → Front) → ((time : ℕ) → Fit (f time .taken)) → Fit (frontWith before g f .taken)
-fit-with before bytes (read.Refused n) e f fits = tt
-fit-with before bytes (read.Record r) e f fits = go (ltb (r .time .0) before)
-  where
-    early : r .time .0 < 2 ^ 64
-    early = let g = read-good bytes r e in omega (arith, on-clock r (ap inRange (sym (g .same)) ∙ g .in-range))
+-- what each record in range has, each that is read has
+module _ (P : WordRecord → Type 0) (holds : (r : WordRecord) → inRange r ≡ true → P r) where
+  each-with : (before : ℕ) (bytes : List ℕ) (g : Read) → readOf bytes ≡ g → (f : ℕ → Front) → ((time : ℕ) → Each P (f time .taken)) → Each P (frontWith before g f .taken)
+  each-with before bytes (read.Refused n) e f all = tt
+  each-with before bytes (read.Record r) e f all = go (ltb (r .time .0) before)
+    where
+      range : inRange r ≡ true
+      range = let g = read-good bytes r e in ap inRange (sym (g .same)) ∙ g .in-range
 
-    go : (b : Bool) → Fit (cond b (stops refusedOutOfOrder) (goesOn r (f (r .time .0))) .taken)
-    go true = tt
-    go false = (early, fits (r .time .0))
+      go : (b : Bool) → Each P (cond b (stops refusedOutOfOrder) (goesOn r (f (r .time .0))) .taken)
+      go true = tt
+      go false = (holds r range, all (r .time .0))
 
-pub front-fit : (n before : ℕ) (bytes : List ℕ) → Fit (frontFrom n before bytes .taken)
-unfolding frontFrom
-front-fit zero before bytes = tt
-front-fit (suc n) before bytes = go (eqb (length bytes) 0) (λ time. front-fit n time (drop 16 bytes))
-  where
-    go : (b : Bool) → ((time : ℕ) → Fit (frontFrom n time (drop 16 bytes) .taken))
-        → Fit (cond b (stops 0) (frontWith before (readOf bytes) (λ (time : ℕ). frontFrom n time (drop 16 bytes))) .taken)
-    go true again = tt
-    go false again = fit-with before bytes (readOf bytes) refl (λ (time : ℕ). frontFrom n time (drop 16 bytes)) again
+  pub front-each : (n before : ℕ) (bytes : List ℕ) → Each P (frontFrom n before bytes .taken)
+  unfolding frontFrom
+  front-each zero before bytes = tt
+  front-each (suc n) before bytes = go (eqb (length bytes) 0) (λ time. front-each n time (drop 16 bytes))
+    where
+      go : (b : Bool) → ((time : ℕ) → Each P (frontFrom n time (drop 16 bytes) .taken))
+          → Each P (cond b (stops 0) (frontWith before (readOf bytes) (λ (time : ℕ). frontFrom n time (drop 16 bytes))) .taken)
+      go true again = tt
+      go false again = each-with before bytes (readOf bytes) refl (λ (time : ℕ). frontFrom n time (drop 16 bytes)) again
 
+-- they are no more than the bytes
 few-with : (before n : ℕ) (g : Read) (f : ℕ → Front) → ((time : ℕ) → length (f time .taken) ≤ n) → length (frontWith before g f .taken) ≤ suc n
 few-with before n (read.Refused m) f few = omega arith
 few-with before n (read.Record r) f few = go (ltb (r .time .0) before)

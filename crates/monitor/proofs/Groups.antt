@@ -16,6 +16,7 @@ use Rattle.verdict.specs.Plans.{isPair}
 use Rattle.monitor.specs.Entries.{isCommand, isSecond, lastIn, isFar, expects, partOf, messageOf, entryOf}
 use Rattle.monitor.specs.Logs.{Group, Placed, heardOn, partIn, belongs, closesAt, groupsFrom, groupsOf, endTime, entriesOf, entriesOn}
 use Rattle.monitor.specs.Machine.{next64, walkStart, standingFrom, foundWhere, foundAt, begunWith, passedWith, joinedBy, heardAs, heardMessage, heardWhere, heardBy, partFor, openedBy, closedAt}
+use Rattle.monitor.specs.Theorems.{Each}
 use Rattle.monitor.specs.declared.entries.Logged.{Logged}
 use Rattle.monitor.specs.declared.entries.Message.{Message}
 use Rattle.monitor.specs.declared.entries.Entry.the-variants as entry
@@ -47,8 +48,7 @@ walkOver w (r ∷ rs) = given (stepBy w r .found) ++ walkOver (stepBy w r .walk)
 
 -- their times fit 64 bits
 abbrev pub Fit : List WordRecord → Type 0
-Fit [] = Unit {0}
-Fit (r ∷ rs) = (r .time .0 < 2 ^ 64) × Fit rs
+Fit rs = Each (λ (r : WordRecord). r .time .0 < 2 ^ 64) rs
 
 -- ---- what is known of a record by what it is to an entry
 

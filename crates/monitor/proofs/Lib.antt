@@ -5,3 +5,6 @@ pub mod Summaries
 pub mod Groups
 pub mod Futures
 pub mod Courses
+pub mod Counts
+pub mod Apart
+pub mod Places

@@ -1,12 +1,17 @@
 -- What is proved of the log (02 a). Each is proved in proofs/ under the name at its side. Assumes nothing.
-use Prim.Native.Nat.{ℕ, _^_, _<_}
+use Prim.Native.Nat.{ℕ, suc, _+_, _^_, _≤_, _<_}
 use mathlib.Core.Path.{_≡_}
+use mathlib.Core.Bool.{cond}
 use mathlib.Core.List.{List, [], _∷_, _++_}
+use lib.Dec.{eqb}
 use lib.ListN.{length, drop}
 use Rattle.records.specs.Records.{recordBytes}
 use Rattle.records.specs.Files.{version}
-use Rattle.monitor.specs.Logs.{FileLog, fileLog}
+use Rattle.records.specs.declared.forms.WordRecord.{WordRecord}
+use Rattle.monitor.specs.Logs.{Group, groupsOn, endTime, entriesOn, logOf, FileLog, fileLog}
 use Rattle.monitor.specs.Machine.{sideStart, readyOf, fedOf, endedBy, givenOf, choiceOf}
+use Rattle.monitor.specs.declared.entries.Entry.{Entry}
+use Rattle.monitor.specs.declared.entries.Entry.the-variants as entry
 use Rattle.monitor.specs.declared.entries.Logged.{Logged}
 use Rattle.monitor.specs.declared.walks.Found.the-variants as found
 use Rattle.monitor.specs.declared.walks.Stop.the-variants as stop
@@ -61,3 +66,63 @@ LogOfTheFile =
     (bytes : List ℕ) → length bytes < 2 ^ 64
     → (es : List Logged) (a b : Side) → Course (sideStart 0) bytes (sideStart 1) bytes es a b
     → (es ≡ fileLog (version ∷ bytes) .entries) × EndsAs (fileLog (version ∷ bytes)) a × EndsAs (fileLog (version ∷ bytes)) b
+
+-- ---- "every record is in exactly one entry"
+
+-- the records of that bus
+abbrev pub onBus : ℕ → List WordRecord → List WordRecord
+onBus bus [] = []
+onBus bus (r ∷ rs) = cond (eqb (r .bus) bus) (r ∷ onBus bus rs) (onBus bus rs)
+
+-- the records of some groups, one after the other
+abbrev pub recordsOf : List Group → List WordRecord
+recordsOf [] = []
+recordsOf (g ∷ gs) = g .first ∷ (g .rest ++ recordsOf gs)
+
+-- how many records some entries have
+abbrev pub recordsIn : Entry → ℕ
+recordsIn (entry.Message m) = m .records
+recordsIn (entry.Single r) = 1
+
+abbrev pub countIn : List Logged → ℕ
+countIn [] = 0
+countIn (e ∷ es) = recordsIn (e .entry) + countIn es
+
+-- The entries of a bus are all its records, each once, and the counts of a file's entries add up to the number of its records: every-record-once
+abbrev pub EveryRecordOnce : Type 0
+EveryRecordOnce =
+    ((bus : ℕ) (rs : List WordRecord) → recordsOf (groupsOn bus rs) ≡ onBus bus rs)
+    × ((file : List ℕ) → countIn (fileLog file .entries) ≡ fileLog file .records)
+
+-- ---- "groups the words of each bus, apart from the other bus"
+
+-- some entries without their places
+abbrev pub plain : List Logged → List Entry
+plain [] = []
+plain (e ∷ es) = e .entry ∷ plain es
+
+-- A bus's entries do not depend on the other bus's records but for the time of the file's last record: buses-apart
+abbrev pub BusesApart : Type 0
+BusesApart =
+    (bus : ℕ) (rs others : List WordRecord) → onBus bus rs ≡ onBus bus others → endTime (record { 0 = 0 }) rs ≡ endTime (record { 0 = 0 }) others
+    → plain (entriesOn bus rs) ≡ plain (entriesOn bus others)
+
+-- ---- "Entries come in order of their first record in the file."
+
+-- their places rise, from one on
+abbrev pub Rise : ℕ → List Logged → Type 0
+Rise from [] = Unit {0}
+Rise from (e ∷ es) = (from ≤ e .place) × Rise (suc (e .place)) es
+
+-- each of some has a property
+abbrev pub Each : {A : Type 0} → (A → Type 0) → List A → Type 0
+Each P [] = Unit {0}
+Each P (x ∷ xs) = P x × Each P xs
+
+-- the record at its place in the file is its first
+abbrev pub BeginsAt : List WordRecord → Group → Type 0
+BeginsAt rs g = (after : List WordRecord) × (drop (g .place) rs ≡ g .first ∷ after)
+
+-- in-order
+abbrev pub InOrder : Type 0
+InOrder = (rs : List WordRecord) → Rise 0 (logOf rs) × ((bus : ℕ) → Each (BeginsAt rs) (groupsOn bus rs))
