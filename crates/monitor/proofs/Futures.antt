@@ -39,12 +39,12 @@ use Rattle.monitor.proofs.Groups.{given, stepBy, walkOver}
 
 -- ---- the records of some bytes, by any number that is enough for them
 
-front-none : (n before : ℕ) (bytes : List ℕ) → length bytes ≡ 0 → frontFrom n before bytes ≡ stops 0
+pub front-none : (n before : ℕ) (bytes : List ℕ) → length bytes ≡ 0 → frontFrom n before bytes ≡ stops 0
 unfolding frontFrom
 front-none zero before bytes none = refl
 front-none (suc n) before bytes none = rw (eq-eqb (length bytes) 0 none)
 
-front-some : (n before : ℕ) (bytes : List ℕ) → (length bytes ≡ 0 → ⊥)
+pub front-some : (n before : ℕ) (bytes : List ℕ) → (length bytes ≡ 0 → ⊥)
     → frontFrom (suc n) before bytes ≡ frontWith before (readOf bytes) (λ (time : ℕ). frontFrom n time (drop 16 bytes))
 unfolding frontFrom
 front-some n before bytes some = rw (ne-eqb (length bytes) 0 some)

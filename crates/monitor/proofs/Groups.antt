@@ -83,7 +83,7 @@ known first rest r = by-far (isFar first rest r) refl
     by-far true f = far f
     by-far false f = by-command f (isCommand r) refl
 
-far-later : (first : WordRecord) (rest : List WordRecord) (r : WordRecord) → isFar first rest r ≡ true → 320 < sinceOf (lastIn first rest .time .0) (r .time .0)
+pub far-later : (first : WordRecord) (rest : List WordRecord) (r : WordRecord) → isFar first rest r ≡ true → 320 < sinceOf (lastIn first rest .time .0) (r .time .0)
 unfolding isFar
 far-later first rest r h = ltb-true 320 (sinceOf (lastIn first rest .time .0) (r .time .0)) h
 

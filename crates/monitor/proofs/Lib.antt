@@ -8,3 +8,5 @@ pub mod Courses
 pub mod Counts
 pub mod Apart
 pub mod Places
+pub mod Stays
+pub mod Rules

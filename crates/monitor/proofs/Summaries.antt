@@ -345,11 +345,15 @@ finish-same : (p q : Plan) → expectedOf p ≡ expectedOf q → p .until ≡ q 
 unfolding finishOf
 finish-same p q e u found place last = rw (e, u)
 
-plan-last : (cs : Commands) (bus : ℕ) (last until : Moment) → planWith cs bus last until .last ≡ last
+pub plan-bus : (cs : Commands) (bus : ℕ) (last until : Moment) → planWith cs bus last until .bus ≡ bus
+plan-bus (commands.One first) bus last until = refl
+plan-bus (commands.Two first second) bus last until = refl
+
+pub plan-last : (cs : Commands) (bus : ℕ) (last until : Moment) → planWith cs bus last until .last ≡ last
 plan-last (commands.One first) bus last until = refl
 plan-last (commands.Two first second) bus last until = refl
 
-plan-until : (cs : Commands) (bus : ℕ) (last until : Moment) → planWith cs bus last until .until ≡ until
+pub plan-until : (cs : Commands) (bus : ℕ) (last until : Moment) → planWith cs bus last until .until ≡ until
 plan-until (commands.One first) bus last until = refl
 plan-until (commands.Two first second) bus last until = refl
 
@@ -392,7 +396,7 @@ module _ (first : WordRecord) (rest : List WordRecord) (until : Moment) where
   rs = behindOf first rest
 
   -- E is the time of the last own word
-  own-last : planOf first rest until .last .0 ≡ lastAfter t (take n rs)
+  pub own-last : planOf first rest until .last .0 ≡ lastAfter t (take n rs)
   own-last = ap (λ (k : Moment). k .0) (plan-last cs (first .bus) (ownLast first rest .time) until) ∙ last-time (lastCommand first rest) (take n rs)
 
   same-verdict : finishOf (planWith cs (first .bus) (lastIn first rest .time) until) (openingOf first rest .found .0) (length (drop n rs)) (lastIn first rest .time .0)

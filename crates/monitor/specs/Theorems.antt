@@ -5,11 +5,21 @@ use mathlib.Core.Bool.{cond}
 use mathlib.Core.List.{List, [], _∷_, _++_}
 use lib.Dec.{eqb}
 use lib.ListN.{length, drop}
-use Rattle.records.specs.Records.{recordBytes}
-use Rattle.records.specs.Files.{version}
+use Rattle.words.specs.Refusals.{notRefused, refusedOutOfOrder}
+use Rattle.words.specs.declared.refusals.Refusal.{Refusal}
+use Rattle.records.specs.Records.{recordBytes, readOf}
+use Rattle.records.specs.Files.{version, formsOf, fileOf}
+use Rattle.records.specs.Theorems.{Fits}
+use Rattle.records.specs.declared.forms.Read.the-variants as read
 use Rattle.records.specs.declared.forms.WordRecord.{WordRecord}
+use Rattle.verdict.specs.Verdicts.{judgedOf}
+use Rattle.verdict.specs.declared.verdicts.Verdict.{Verdict}
+use Rattle.verdict.specs.declared.judges.Finding.{Finding}
+use Rattle.verdict.specs.declared.judges.Judged.the-variants as judged
+use Rattle.monitor.specs.Entries.{returnedIn, planOf, outcomeIn}
 use Rattle.monitor.specs.Logs.{Group, groupsOn, endTime, entriesOn, logOf, FileLog, fileLog}
 use Rattle.monitor.specs.Machine.{sideStart, readyOf, fedOf, endedBy, givenOf, choiceOf}
+use Rattle.monitor.specs.declared.entries.Outcome.the-variants as outcome
 use Rattle.monitor.specs.declared.entries.Entry.{Entry}
 use Rattle.monitor.specs.declared.entries.Entry.the-variants as entry
 use Rattle.monitor.specs.declared.entries.Logged.{Logged}
@@ -126,3 +136,37 @@ BeginsAt rs g = (after : List WordRecord) × (drop (g .place) rs ≡ g .first �
 -- in-order
 abbrev pub InOrder : Type 0
 InOrder = (rs : List WordRecord) → Rise 0 (logOf rs) × ((bus : ℕ) → Each (BeginsAt rs) (groupsOn bus rs))
+
+-- ---- "A record earlier than the one before is refused with 6; the log stays."
+
+-- records that can be written, none earlier than the one before it
+abbrev pub Written : ℕ → List WordRecord → Type 0
+Written before [] = Unit {0}
+Written before (r ∷ rs) = Fits r × (before ≤ r .time .0) × Written (r .time .0) rs
+
+-- what stands behind a record of that time, and the refusal that ends the log there: no byte; bytes that the reader refuses; a record that is earlier
+pub data EndsBy (before : ℕ) : List ℕ → ℕ → Type 0 where
+  at-end : EndsBy before [] notRefused
+  unread : {bytes : List ℕ} (n : Refusal) → 0 < length bytes → readOf bytes ≡ read.Refused n → EndsBy before bytes (n .0)
+  earlier : {bytes : List ℕ} (r : WordRecord) → readOf bytes ≡ read.Record r → r .time .0 < before → EndsBy before bytes refusedOutOfOrder
+
+-- A file gives the log of the records before the first that is refused, whatever stands behind them: log-stays
+abbrev pub LogStays : Type 0
+LogStays =
+    (rs : List WordRecord) → Written 0 rs
+    → (bytes : List ℕ) (n : ℕ) → EndsBy (endTime (record { 0 = 0 }) rs .0) bytes n
+    → fileLog (fileOf rs ++ bytes) ≡ record { entries = logOf rs; records = length rs; refusal = n }
+
+-- ---- "the verdict that the controller rules give"
+
+-- Where an entry has a verdict, it is what document 01 gives for its plan and all its returned records, handed over as bytes
+abbrev pub ByTheRules : Group → Type 0
+ByTheRules g =
+    (v : Verdict) → outcomeIn (g .first) (g .rest) (g .until) ≡ outcome.Given v
+    → (f : Finding)
+    × (judgedOf (planOf (g .first) (g .rest) (g .until)) (formsOf (returnedIn (g .first) (g .rest))) ≡ judged.Given f)
+    × (f .verdict ≡ v)
+
+-- verdict-of-the-rules
+abbrev pub VerdictOfTheRules : Type 0
+VerdictOfTheRules = (rs : List WordRecord) → Written 0 rs → (bus : ℕ) → Each ByTheRules (groupsOn bus rs)

@@ -1,0 +1,150 @@
+-- The verdict of an entry is what document 01 gives for its plan and its returned records, handed over as bytes. Assumes nothing.
+use mathlib.Core.Path.{_≡_, refl, sym, ap, subst, _∙_}
+use mathlib.Core.Bool.{Bool, true, false, not, cond, _&&_, _||_}
+use Prim.Native.Nat.{ℕ, zero, suc, _+_, _^_, _≤_, _<_}
+use native.Mathlib.Omega.{arith}
+use mathlib.Core.List.{List, [], _∷_, _++_, append-assoc, append-nil}
+use lib.Dec.{eqb, ltb, leb}
+use lib.ListN.{length, take, drop, length-append}
+use lib.Seq.{drop-at}
+use borrow.Author.Tests.{eqb-true, eqb-false, eq-eqb, ne-eqb, lt-ltb, le-leb, ltb-true, ltb-false, not-false}
+use Rattle.words.specs.Words.{onClock, sinceOf}
+use Rattle.words.specs.Refusals.{notRefused}
+use Rattle.words.specs.declared.times.Moment.{Moment}
+use Rattle.records.specs.Records.{formOf, readOf}
+use Rattle.records.specs.Files.{Walk, whole, with, formsOf}
+use Rattle.records.specs.Theorems.{Fits}
+use Rattle.records.specs.declared.forms.WordRecord.{WordRecord}
+use Rattle.records.specs.declared.forms.Read.{Read}
+use Rattle.records.proofs.Theorems.{read-written}
+use Rattle.verdict.specs.Plans.{isPossible, planRefusal}
+use Rattle.verdict.specs.Verdicts.{recordRefusal, goOn, returnedFrom, returnedOf, findingOf, judgedOf}
+use Rattle.verdict.specs.Theorems.{lastAfter}
+use Rattle.verdict.specs.declared.verdicts.Verdict.{Verdict}
+use Rattle.verdict.specs.declared.plans.Plan.{Plan}
+use Rattle.verdict.specs.declared.judges.Finding.{Finding}
+use Rattle.verdict.specs.declared.judges.Judged.the-variants as judged
+use Rattle.verdict.proofs.Findings.{taken-given}
+use Rattle.monitor.specs.Entries.{isSecond, commandsOf, lastCommand, behindOf, lastIn, isFar, ownNumber, ownBad, ownLast, returnedIn, hasTwins, planOf, outcomeIn}
+use Rattle.monitor.specs.Logs.{Group, Placed, heardOn, partIn, belongs, closesAt, groupsFrom, groupsOf, groupsOn, endTime}
+use Rattle.monitor.specs.Theorems.{onBus, Each, Written, ByTheRules, VerdictOfTheRules}
+use Rattle.monitor.specs.declared.entries.Commands.{Commands}
+use Rattle.monitor.specs.declared.entries.Commands.the-variants as commands
+use Rattle.monitor.specs.declared.entries.Outcome.{Outcome}
+use Rattle.monitor.specs.declared.entries.Outcome.the-variants as outcome
+use Rattle.monitor.proofs.Appends.{last-time, last-split}
+use Rattle.monitor.proofs.Summaries.{last-behind, own-last, plan-bus, plan-last, plan-until}
+use Rattle.monitor.proofs.Groups.{far-later}
+use Rattle.monitor.proofs.Futures.{in-range}
+use Rattle.monitor.proofs.Counts.{heards, heards-on}
+
+-- ---- records of one bus, none earlier than the one before it
+
+abbrev Chain : ℕ → ℕ → List WordRecord → Type 0
+Chain bus t [] = Unit {0}
+Chain bus t (r ∷ rs) = Fits r × (r .bus ≡ bus) × (t ≤ r .time .0) × Chain bus (r .time .0) rs
+
+chain-less : (bus t less : ℕ) (rs : List WordRecord) → less ≤ t → Chain bus t rs → Chain bus less rs
+chain-less bus t less [] l chain = tt
+chain-less bus t less (r ∷ rs) l chain = (chain .0, chain .1, omega (arith, chain .2), chain .3)
+
+chain-on : (bus : ℕ) (rs : List WordRecord) (t : ℕ) → Written t rs → Chain bus t (onBus bus rs)
+chain-on bus [] t written = tt
+chain-on bus (r ∷ rs) t written = go (eqb (r .bus) bus) refl (chain-on bus rs (r .time .0) (written .2))
+  where
+    go : (b : Bool) → eqb (r .bus) bus ≡ b → Chain bus (r .time .0) (onBus bus rs) → Chain bus t (cond b (r ∷ onBus bus rs) (onBus bus rs))
+    go true h again = (written .0, eqb-true (r .bus) bus h, written .1, again)
+    go false h again = chain-less bus (r .time .0) t (onBus bus rs) (written .1) again
+
+chain-front : (bus : ℕ) (xs ys : List WordRecord) (t : ℕ) → Chain bus t (xs ++ ys) → Chain bus t xs
+chain-front bus [] ys t chain = tt
+chain-front bus (x ∷ xs) ys t chain = (chain .0, chain .1, chain .2, chain-front bus xs ys (x .time .0) (chain .3))
+
+chain-rest : (bus : ℕ) (xs ys : List WordRecord) (t : ℕ) → Chain bus t (xs ++ ys) → Chain bus (lastAfter t xs) ys
+chain-rest bus [] ys t chain = chain
+chain-rest bus (x ∷ xs) ys t chain = chain-rest bus xs ys (x .time .0) (chain .3)
+
+chain-last : (bus : ℕ) (rs : List WordRecord) (t : ℕ) → Chain bus t rs → t ≤ lastAfter t rs
+chain-last bus [] t chain = omega arith
+chain-last bus (r ∷ rs) t chain = omega (arith, chain .2, chain-last bus rs (r .time .0) (chain .3))
+
+last-append : (xs ys : List WordRecord) (t : ℕ) → lastAfter t (xs ++ ys) ≡ lastAfter (lastAfter t xs) ys
+last-append [] ys t = refl
+last-append (x ∷ xs) ys t = last-append xs ys (x .time .0)
+
+-- the file's last record is not earlier than the bus's last, and on the clock
+end-late : (bus : ℕ) (rs : List WordRecord) (t : ℕ) (m : Moment) → t ≤ m .0 → Written (m .0) rs → lastAfter t (onBus bus rs) ≤ endTime m rs .0
+end-late bus [] t m l written = l
+end-late bus (r ∷ rs) t m l written =
+    go (eqb (r .bus) bus) (end-late bus rs (r .time .0) (r .time) (omega arith) (written .2)) (end-late bus rs t (r .time) (omega (arith, l, written .1)) (written .2))
+  where
+    go : (b : Bool) → lastAfter (r .time .0) (onBus bus rs) ≤ endTime (r .time) rs .0 → lastAfter t (onBus bus rs) ≤ endTime (r .time) rs .0
+        → lastAfter t (cond b (r ∷ onBus bus rs) (onBus bus rs)) ≤ endTime (r .time) rs .0
+    go true own other = own
+    go false own other = other
+
+end-clock : (rs : List WordRecord) (m : Moment) → m .0 < 2 ^ 48 → Written (m .0) rs → endTime m rs .0 < 2 ^ 48
+end-clock [] m l written = l
+end-clock (r ∷ rs) m l written = end-clock rs (r .time) (in-range r (written .0 .in-range) .0) (written .2)
+
+-- ---- so are those of a group, and Q is not earlier
+
+pub record Sound (bus : ℕ) (g : Group) : Type 0 where
+  pub chain : Chain bus 0 (g .first ∷ g .rest)
+  pub late : lastAfter (g .first .time .0) (g .rest) ≤ g .until .0
+  pub clock : g .until .0 < 2 ^ 48
+
+closes-late : (bus : ℕ) (first : WordRecord) (rest : List WordRecord) (r : WordRecord) → Fits r → lastAfter (first .time .0) rest ≤ r .time .0
+    → (lastAfter (first .time .0) rest ≤ closesAt first rest r .0) × (closesAt first rest r .0 < 2 ^ 48)
+unfolding closesAt
+closes-late bus first rest r fits l = go (isFar first rest r) refl
+  where
+    go : (b : Bool) → isFar first rest r ≡ b
+        → (lastAfter (first .time .0) rest ≤ cond b (record { 0 = lastIn first rest .time .0 + 320 }) (r .time) .0)
+        × (cond b (record { 0 = lastIn first rest .time .0 + 320 }) (r .time) .0 < 2 ^ 48)
+    go true h = (omega (arith, last-time first rest), omega (arith, far-later first rest r h, in-range r (fits .in-range) .0))
+    go false h = (l, in-range r (fits .in-range) .0)
+
+sound-from : (bus : ℕ) (ps : List Placed) (end : Moment) (place : ℕ) (first : WordRecord) (rest : List WordRecord)
+    → Chain bus 0 (first ∷ (rest ++ heards ps)) → lastAfter (first .time .0) (rest ++ heards ps) ≤ end .0 → end .0 < 2 ^ 48
+    → Each (Sound bus) (groupsFrom end place first rest ps)
+unfolding groupsFrom
+sound-from bus [] end place first rest chain late clock = (record {
+    chain = (chain .0, chain .1, chain .2, chain-front bus rest [] (first .time .0) (chain .3));
+    late = omega (arith, late, last-append rest [] (first .time .0));
+    clock = clock;
+  }, tt)
+sound-from bus (p ∷ ps) end place first rest chain late clock =
+    go (belongs (partIn first rest (p .heard)))
+    (sound-from bus ps end place first (rest ++ (p .heard ∷ []))
+    (subst (λ (l : List WordRecord). Chain bus 0 (first ∷ l)) (sym (append-assoc rest (p .heard ∷ []) (heards ps))) chain)
+    (omega (arith, late, ap (lastAfter (first .time .0)) (append-assoc rest (p .heard ∷ []) (heards ps)))) clock)
+    (sound-from bus ps end (p .place) (p .heard) [] (chain-less bus (lastAfter (first .time .0) rest) 0 (p .heard ∷ heards ps) (omega arith) behind)
+    (omega (arith, late, last-append rest (p .heard ∷ heards ps) (first .time .0))) clock)
+  where
+    behind : Chain bus (lastAfter (first .time .0) rest) (p .heard ∷ heards ps)
+    behind = chain-rest bus rest (p .heard ∷ heards ps) (first .time .0) (chain .3)
+
+    this : Sound bus (record { place = place; first = first; rest = rest; until = closesAt first rest (p .heard) })
+    this =
+        let closes = closes-late bus first rest (p .heard) (behind .0) (behind .2) in
+        record { chain = (chain .0, chain .1, chain .2, chain-front bus rest (p .heard ∷ heards ps) (first .time .0) (chain .3)); late = closes .0; clock = closes .1 }
+
+    go : (b : Bool) → Each (Sound bus) (groupsFrom end place first (rest ++ (p .heard ∷ [])) ps) → Each (Sound bus) (groupsFrom end (p .place) (p .heard) [] ps)
+        → Each (Sound bus)
+        (cond b (groupsFrom end place first (rest ++ (p .heard ∷ [])) ps)
+        (record { place = place; first = first; rest = rest; until = closesAt first rest (p .heard) } ∷ groupsFrom end (p .place) (p .heard) [] ps))
+    go true joins begins = joins
+    go false joins begins = (this, begins)
+
+sound-of : (bus : ℕ) (ps : List Placed) (end : Moment) → Chain bus 0 (heards ps) → lastAfter 0 (heards ps) ≤ end .0 → end .0 < 2 ^ 48 → Each (Sound bus) (groupsOf end ps)
+sound-of bus [] end chain late clock = tt
+sound-of bus (p ∷ ps) end chain late clock = sound-from bus ps end (p .place) (p .heard) [] chain late clock
+
+sound-on : (rs : List WordRecord) → Written 0 rs → (bus : ℕ) → Each (Sound bus) (groupsOn bus rs)
+sound-on rs written bus =
+    let own = sym (heards-on bus 0 rs) in
+    sound-of bus (heardOn bus 0 rs) (endTime (record { 0 = 0 }) rs)
+    (subst (Chain bus 0) own (chain-on bus rs 0 written))
+    (subst (λ (l : List WordRecord). lastAfter 0 l ≤ endTime (record { 0 = 0 }) rs .0) own (end-late bus rs 0 (record { 0 = 0 }) (omega arith) written))
+    (end-clock rs (record { 0 = 0 }) (omega arith) written)
