@@ -1,7 +1,9 @@
 -- The verdict of an entry is what document 01 gives for its plan and its returned records, handed over as bytes. Assumes nothing.
 use mathlib.Core.Path.{_≡_, refl, sym, ap, subst, _∙_}
-use mathlib.Core.Bool.{Bool, true, false, not, cond, _&&_, _||_}
+use mathlib.Core.Bool.{Bool, true, false, not, cond, _&&_, _||_, true≢false}
+use mathlib.Core.Logic.{⊎-elim}
 use Prim.Native.Nat.{ℕ, zero, suc, _+_, _^_, _≤_, _<_}
+use native.Mathlib.Nat.{eq-or-lt-of-le}
 use native.Mathlib.Omega.{arith}
 use mathlib.Core.List.{List, [], _∷_, _++_, append-assoc, append-nil}
 use lib.Dec.{eqb, ltb, leb}
@@ -18,7 +20,7 @@ use Rattle.records.specs.declared.forms.WordRecord.{WordRecord}
 use Rattle.records.specs.declared.forms.Read.{Read}
 use Rattle.records.proofs.Theorems.{read-written}
 use Rattle.verdict.specs.Plans.{isPossible, planRefusal}
-use Rattle.verdict.specs.Verdicts.{recordRefusal, goOn, returnedFrom, returnedOf, findingOf, judgedOf}
+use Rattle.verdict.specs.Verdicts.{recordRefusal, goOn, returnedFrom, returnedOf, findingOf, verdictOf, judgedOf}
 use Rattle.verdict.specs.Theorems.{lastAfter}
 use Rattle.verdict.specs.declared.verdicts.Verdict.{Verdict}
 use Rattle.verdict.specs.declared.plans.Plan.{Plan}
@@ -148,3 +150,140 @@ sound-on rs written bus =
     (subst (Chain bus 0) own (chain-on bus rs 0 written))
     (subst (λ (l : List WordRecord). lastAfter 0 l ≤ endTime (record { 0 = 0 }) rs .0) own (end-late bus rs 0 (record { 0 = 0 }) (omega arith) written))
     (end-clock rs (record { 0 = 0 }) (omega arith) written)
+
+-- ---- without twins each is later than the one before
+
+abbrev Strict : ℕ → ℕ → List WordRecord → Type 0
+Strict bus t [] = Unit {0}
+Strict bus t (r ∷ rs) = Fits r × (r .bus ≡ bus) × (t < r .time .0) × Strict bus (r .time .0) rs
+
+or-no : (a b : Bool) → (a || b) ≡ false → (a ≡ false) × (b ≡ false)
+or-no true b h = absurd (true≢false h)
+or-no false b h = (refl, h)
+
+later : (m n : ℕ) → m ≤ n → eqb n m ≡ false → m < n
+later m n l differ = ⊎-elim (λ same. absurd (eqb-false n m differ (sym same))) (λ below. below) (eq-or-lt-of-le l)
+
+strict : (bus : ℕ) (rest : List WordRecord) (first : WordRecord) → hasTwins first rest ≡ false → Chain bus (first .time .0) rest → Strict bus (first .time .0) rest
+strict bus [] first alone chain = tt
+strict bus (r ∷ rest) first alone chain =
+    let parts = or-no (eqb (r .time .0) (first .time .0)) (hasTwins r rest) alone in
+    (chain .0, chain .1, later (first .time .0) (r .time .0) (chain .2) (parts .0), strict bus rest r (parts .1) (chain .3))
+
+-- so are those behind the commands, and those that are returned
+strict-behind : (bus : ℕ) (first : WordRecord) (rest : List WordRecord) → Strict bus (first .time .0) rest → Strict bus (lastCommand first rest .time .0) (behindOf first rest)
+strict-behind bus first [] all = tt
+strict-behind bus first (r ∷ rest) all = go (isSecond first r)
+  where
+    go : (b : Bool) → Strict bus (cond b r first .time .0) (cond b rest (r ∷ rest))
+    go true = all .3
+    go false = all
+
+strict-drop : (bus n t : ℕ) (rs : List WordRecord) → Strict bus t rs → Strict bus (lastAfter t (take n rs)) (drop n rs)
+strict-drop bus zero t rs all = all
+strict-drop bus (suc n) t [] all = tt
+strict-drop bus (suc n) t (r ∷ rs) all = strict-drop bus n (r .time .0) rs (all .3)
+
+strict-last : (bus : ℕ) (rs : List WordRecord) (t : ℕ) → Strict bus t rs → t ≤ lastAfter t rs
+strict-last bus [] t all = omega arith
+strict-last bus (r ∷ rs) t all = omega (arith, all .2, strict-last bus rs (r .time .0) (all .3))
+
+-- ---- document 01 takes them all
+
+taken : (plan : Plan) (bus t : ℕ) (r : WordRecord) → plan .bus ≡ bus → r .bus ≡ bus → t < r .time .0 → r .time .0 ≤ plan .until .0 → recordRefusal plan t r ≡ notRefused
+unfolding recordRefusal
+taken plan bus t r p b l m = rw (eq-eqb (r .bus) (plan .bus) (b ∙ sym p), lt-ltb t (r .time .0) l, le-leb (r .time .0) (plan .until .0) m)
+
+returned-some : (n : ℕ) (plan : Plan) (t : ℕ) (r : WordRecord) (after : List ℕ) → Fits r → recordRefusal plan t r ≡ notRefused
+    → returnedFrom (suc n) plan t (formOf r ++ after) ≡ with r (returnedFrom n plan (r .time .0) after)
+unfolding returnedFrom
+returned-some n plan t r after fits ok =
+    rw (ne-eqb (length (formOf r ++ after)) 0 (λ z. omega (arith, z, length-append (formOf r) after)), read-written r after fits, eq-eqb (recordRefusal plan t r) notRefused ok)
+    (ap (λ (k : List ℕ). with r (returnedFrom n plan (r .time .0) k)) (drop-at (formOf r) after 16 refl))
+
+returned-none : (n : ℕ) (plan : Plan) (t : ℕ) → returnedFrom n plan t [] ≡ whole []
+unfolding returnedFrom
+returned-none zero plan t = refl
+returned-none (suc n) plan t = refl
+
+returned-all : (rs : List WordRecord) (n : ℕ) (plan : Plan) (bus t : ℕ) → length (formsOf rs) ≤ n → plan .bus ≡ bus → Strict bus t rs → lastAfter t rs ≤ plan .until .0
+    → returnedFrom n plan t (formsOf rs) ≡ whole rs
+unfolding formsOf
+returned-all [] n plan bus t l p all late = returned-none n plan t
+returned-all (r ∷ rs) zero plan bus t l p all late = absurd (omega (arith, l, length-append (formOf r) (formsOf rs)))
+returned-all (r ∷ rs) (suc n) plan bus t l p all late =
+    returned-some n plan t r (formsOf rs) (all .0)
+    (taken plan bus t r p (all .1) (all .2) (omega (arith, late, strict-last bus rs (r .time .0) (all .3))))
+    ∙ ap (with r) (returned-all rs n plan bus (r .time .0) (omega (arith, l, length-append (formOf r) (formsOf rs))) p (all .3) late)
+
+-- ---- the verdict
+
+plan-taken : (plan : Plan) → isPossible plan ≡ true → plan .bus ≤ 1 → plan .last .0 ≤ plan .until .0 → plan .until .0 < 2 ^ 48 → planRefusal plan ≡ notRefused
+unfolding planRefusal
+plan-taken plan possible bus order clock =
+    rw (possible, le-leb (plan .bus) 1 bus, lt-ltb (plan .last .0) (2 ^ 48) (omega (arith, order, clock)), lt-ltb (plan .until .0) (2 ^ 48) clock, le-leb (plan .last .0) (plan .until .0) order)
+
+given-same : (v w : Verdict) → outcome.Given v ≡ outcome.Given w → v ≡ w
+given-same v w h = cc
+
+module _ (bus : ℕ) (g : Group) (sound : Sound bus g) where
+  abbrev first : WordRecord
+  first = g .first
+
+  abbrev rest : List WordRecord
+  rest = g .rest
+
+  abbrev plan : Plan
+  plan = planOf first rest (g .until)
+
+  abbrev returned : List WordRecord
+  returned = returnedIn first rest
+
+  until-same : plan .until .0 ≡ g .until .0
+  until-same = ap (λ (m : Moment). m .0) (plan-until (commandsOf first rest) (first .bus) (ownLast first rest .time) (g .until))
+
+  bus-same : plan .bus ≡ bus
+  bus-same = plan-bus (commandsOf first rest) (first .bus) (ownLast first rest .time) (g .until) ∙ sound .chain .1
+
+  -- the last returned record is the entry's last
+  last-same : lastAfter (plan .last .0) returned ≡ lastAfter (first .time .0) rest
+  last-same =
+      ap (λ (t : ℕ). lastAfter t returned) (own-last first rest (g .until))
+      ∙ last-split (ownNumber first rest) (lastCommand first rest .time .0) (behindOf first rest)
+      ∙ sym (last-behind first rest)
+      ∙ last-time first rest
+
+  all-later : hasTwins first rest ≡ false → Strict bus (plan .last .0) returned
+  all-later alone =
+      subst (λ (t : ℕ). Strict bus t returned) (sym (own-last first rest (g .until)))
+      (strict-drop bus (ownNumber first rest) (lastCommand first rest .time .0) (behindOf first rest) (strict-behind bus first rest (strict bus rest first alone (sound .chain .3))))
+
+  rules-give : isPossible plan ≡ true → hasTwins first rest ≡ false → judgedOf plan (formsOf returned) ≡ judged.Given (findingOf plan returned)
+  unfolding returnedOf
+  rules-give possible alone =
+      let all = all-later alone in
+      let order = strict-last bus returned (plan .last .0) all in
+      taken-given plan (formsOf returned) returned
+      (plan-taken plan possible (omega (arith, bus-same, sound .chain .1, in-range first (sound .chain .0 .in-range) .1)) (omega (arith, order, last-same, sound .late, until-same))
+      (omega (arith, until-same, sound .clock)))
+      (returned-all returned (length (formsOf returned)) plan bus (plan .last .0) (omega arith) bus-same all (omega (arith, last-same, sound .late, until-same)))
+
+  by-the-rules : ByTheRules g
+  unfolding outcomeIn
+  by-the-rules v e = go (not (isPossible plan) || ownBad first rest || hasTwins first rest) refl e
+    where
+      go : (b : Bool) → (not (isPossible plan) || ownBad first rest || hasTwins first rest) ≡ b
+          → cond b outcome.None (outcome.Given (record { 0 = verdictOf plan returned })) ≡ outcome.Given v
+          → (f : Finding) × (judgedOf plan (formsOf returned) ≡ judged.Given f) × (f .verdict ≡ v)
+      go true h e = let z : _≡_ {A = ℕ} 0 1 = cc in absurd (omega arith)
+      go false h e =
+          let outer = or-no (not (isPossible plan) || ownBad first rest) (hasTwins first rest) h in
+          let inner = or-no (not (isPossible plan)) (ownBad first rest) (outer .0) in
+          (findingOf plan returned, rules-give (not-false (isPossible plan) (inner .0)) (outer .1), given-same (record { 0 = verdictOf plan returned }) v e)
+
+all-by-the-rules : (bus : ℕ) (gs : List Group) → Each (Sound bus) gs → Each ByTheRules gs
+all-by-the-rules bus [] each = tt
+all-by-the-rules bus (g ∷ gs) each = (by-the-rules bus g (each .0), all-by-the-rules bus gs (each .1))
+
+pub verdict-of-the-rules : VerdictOfTheRules
+verdict-of-the-rules rs written bus = all-by-the-rules bus (groupsOn bus rs) (sound-on rs written bus)
