@@ -33,8 +33,7 @@ use Rattle.agreement.proofs.Statuses.{address-settled, good-ready}
 -- ---- a sound terminal, and what the statement takes for given
 
 module _ (s : State) (sound : Sound s) (t : ℕ) (transmit : List ℕ) (sized : length transmit ≡ 1024) (due : isDue (s .message) t ≡ true)
-    (legal : isLegal (s .setup) (s .message .command .0) ≡ true) (shown : isWithheld s ≡ false)
-    (until : Moment) (clock : onClock (until .0) ≡ true) where
+    (legal : isLegal (s .setup) (s .message .command .0) ≡ true) (shown : isWithheld s ≡ false) where
   -- the command
   abbrev w : ℕ
   w = s .message .command .0
@@ -44,7 +43,7 @@ module _ (s : State) (sound : Sound s) (t : ℕ) (transmit : List ℕ) (sized : 
   waits = sound .message (due-under-way (s .message) t due)
 
   -- it is not to all terminals
-  not-broadcast : isBroadcast w ≡ false
+  pub not-broadcast : isBroadcast w ≡ false
   unfolding isWithheld
   not-broadcast = or-false (isBroadcast w) (isShut (s .held) (s .message .bus)) shown (λ one on. one)
 
@@ -54,11 +53,15 @@ module _ (s : State) (sound : Sound s) (t : ℕ) (transmit : List ℕ) (sized : 
       or-cases (eqb (addressOf w) (s .setup .address)) (isBroadcast w) (waits .command) (eqb-true (addressOf w) (s .setup .address))
       (λ all. true≢ (sym all ∙ not-broadcast))
 
+  -- and its status is from there
+  pub from-own : addressOf (statusNow s) ≡ addressOf w
+  from-own = address-settled s w sound ∙ sym own
+
   -- the answer, part by part
   abbrev reply : Reply
   reply = replyNow s transmit
 
-  abbrev answer : Answer
+  abbrev pub answer : Answer
   answer = record {
     given = true;
     bus = s .message .bus;
@@ -69,42 +72,44 @@ module _ (s : State) (sound : Sound s) (t : ℕ) (transmit : List ℕ) (sized : 
   }
 
   -- it is the one that is given
-  answer-given : rule1Answer s t transmit ≡ answer
+  pub answer-given : rule1Answer s t transmit ≡ answer
   unfolding rule1Answer answerOf
   answer-given = rw (due, shown)
 
-  -- the plan expects a status and the data words of the command
-  plan-expects : expectedOf (planFor s until) ≡ partOf w
-  unfolding expectedOf backOf
-  plan-expects = rw not-broadcast
+  module _ (until : Moment) (clock : onClock (until .0) ≡ true) where
+    -- the plan expects a status and the data words of the command
+    plan-expects : expectedOf (planFor s until) ≡ partOf w
+    unfolding expectedOf backOf
+    plan-expects = rw not-broadcast
 
-  -- the plan is possible
-  plan-possible : s .message .last .0 ≤ until .0 → planRefusal (planFor s until) ≡ notRefused
-  unfolding planRefusal isPossible
-  plan-possible later =
-      let waiting = waits in
-      let single = legal-single (s .setup) w legal in
-      let before : onClock (s .message .last .0) ≡ true = omega (arith, lt-ltb, ltb-true) in
-      rw (single, le-leb (s .message .bus) 1 (waiting .bus), before, clock, le-leb (s .message .last .0) (until .0) later)
+    -- the plan is possible
+    plan-possible : s .message .last .0 ≤ until .0 → planRefusal (planFor s until) ≡ notRefused
+    unfolding planRefusal isPossible
+    plan-possible later =
+        let waiting = waits in
+        let single = legal-single (s .setup) w legal in
+        let before : onClock (s .message .last .0) ≡ true = omega (arith, lt-ltb, ltb-true) in
+        rw (single, le-leb (s .message .bus) 1 (waiting .bus), before, clock, le-leb (s .message .last .0) (until .0) later)
 
-  -- that answer is judged so
-  answer-judged : answer .due .0 + wordTicks * answer .count + listenedLeast ≤ until .0 → JudgedSo s answer until
-  answer-judged listened =
-      let words : List ℕ = take (reply .count) (reply .words) in
-      let few : length words ≤ reply .count = simp length-take (omega arith) in
-      let waiting = waits in
-      record {
-        not-refused = plan-possible (omega arith);
-        accepted = answer-taken (planFor s until) (waiting .bus) clock (s .message .last .0) (statusNow s) words (omega arith);
-        verdict = answer-verdict (planFor s until) w plan-expects (s .message .bus) (statusNow s) words (address-settled s w sound ∙ sym own)
-            (omega arith)
-            (λ clear. reply-sends s w transmit sized legal (good-ready s w legal (statusHeard answer) refl clear));
-      }
+    -- that answer is judged so, by the words that are heard
+    pub answer-judged : answer .due .0 + wordTicks * length (take (answer .count) (answer .words)) + listenedLeast ≤ until .0 → JudgedSo s answer until
+    answer-judged listened =
+        let words : List ℕ = take (reply .count) (reply .words) in
+        let waiting = waits in
+        record {
+          not-refused = plan-possible (omega arith);
+          accepted = answer-taken (planFor s until) (waiting .bus) clock (s .message .last .0) (statusNow s) words (omega arith);
+          verdict = answer-verdict (planFor s until) w plan-expects (s .message .bus) (statusNow s) words from-own (omega arith)
+              (λ clear. reply-sends s w transmit sized legal (good-ready s w legal (statusHeard answer) refl clear));
+        }
 
-  -- so the given one is
-  judged : rule1Answer s t transmit .due .0 + wordTicks * rule1Answer s t transmit .count + listenedLeast ≤ until .0
-      → JudgedSo s (rule1Answer s t transmit) until
-  judged listened = rw answer-given (answer-judged (rw answer-given at listened))
+    -- so the given one is, whose words are at most its count
+    judged : rule1Answer s t transmit .due .0 + wordTicks * rule1Answer s t transmit .count + listenedLeast ≤ until .0
+        → JudgedSo s (rule1Answer s t transmit) until
+    judged listened =
+        let few : length (take (answer .count) (answer .words)) ≤ answer .count = simp length-take (omega arith) in
+        let enough : answer .due .0 + wordTicks * answer .count + listenedLeast ≤ until .0 = rw answer-given at listened in
+        rw answer-given (answer-judged (omega (arith, few, enough)))
 
 pub agrees : Agrees
 agrees = judged

@@ -25,7 +25,7 @@ use Rattle.agreement.specs.Agreement.{heardAt, dataFrom, Accepted}
 -- ---- a word
 
 -- it is valid, with either sync
-heard-valid : (sync word : ℕ) → (eqb sync commandSync || eqb sync dataSync) ≡ true → isValid sync 0 word (parityOf word) ≡ true
+pub heard-valid : (sync word : ℕ) → (eqb sync commandSync || eqb sync dataSync) ≡ true → isValid sync 0 word (parityOf word) ≡ true
 unfolding isValid
 heard-valid sync word shaped =
     let one = parity-one word in

@@ -1,14 +1,10 @@
 // The numbers of a line: "Numbers are decimal, but for 16-bit words (4 hexadecimal digits), masks (8) and bytes (2 each)". What is no
 // number, or does not fit, is None.
 
+use lines::Number;
+
 // what `digit` gives of a byte that is no digit
 pub(crate) const NO_DIGIT: u8 = 16;
-
-// the most digits of a number below 2^64
-const DIGITS_MOST: usize = 20;
-
-// the largest number that can be taken ten times
-const TENTH: u64 = 1844674407370955161;
 
 // "the receive or transmit mask" of a mask line
 pub(crate) const RECEIVE: u64 = 0;
@@ -19,11 +15,6 @@ const TRANSMIT: u64 = 1;
 pub(crate) const REST: u8 = b'*';
 
 const NOTHING: u8 = b' ';
-
-pub(crate) enum Number {
-    Is(u64),
-    None,
-}
 
 // Gives the value of a hexadecimal digit "in either case".
 pub(crate) fn digit(byte: u8) -> u8 {
@@ -39,44 +30,9 @@ fn wide(digit: u8) -> u64 {
     digit as u64
 }
 
-// Gives the number with one more decimal digit, or none where it does not fit.
-fn with_digit(value: u64, digit: u64) -> Number {
-    if value > TENTH {
-        return Number::None;
-    }
-    if digit > 9 {
-        return Number::None;
-    }
-    let tens = value * 10;
-    if digit > 0xFFFF_FFFF_FFFF_FFFF - tens {
-        return Number::None;
-    }
-    Number::Is(tens + digit)
-}
-
-// Gives the number that 1 to 20 decimal digits spell.
-fn spelled(text: &[u8]) -> Number {
-    if text.len() == 0 {
-        return Number::None;
-    }
-    if text.len() > DIGITS_MOST {
-        return Number::None;
-    }
-    let mut value: u64 = 0;
-    let mut i = 0;
-    while i < text.len() {
-        let Number::Is(next) = with_digit(value, wide(digit(text[i]))) else {
-            return Number::None;
-        };
-        value = next;
-        i += 1;
-    }
-    Number::Is(value)
-}
-
 // Gives the decimal number of a text, where it is at most so much.
 fn decimal_of(text: &[u8], most: u64) -> Number {
-    let Number::Is(value) = spelled(text) else {
+    let Number::Is(value) = lines::read_decimal(text) else {
         return Number::None;
     };
     if value > most {

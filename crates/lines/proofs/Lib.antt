@@ -1,3 +1,5 @@
 pub mod Waits
 pub mod Texts
 pub mod Losses
+pub mod Readings
+pub mod Backs

@@ -1,3 +1,4 @@
--- What waits in a sink after each call, and the texts of words and numbers; then what is proved of them.
+-- What waits in a sink after each call, and the texts of words and numbers; the number of a text; then what is proved of them.
 pub mod Sinks
+pub mod Numbers
 pub mod Theorems

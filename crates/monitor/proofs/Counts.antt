@@ -162,6 +162,7 @@ count-at (opened.At c) file =
 
 pub every-record-once : EveryRecordOnce
 unfolding fileLog
-every-record-once =
-    (λ bus rs. records-of (endTime (record { 0 = 0 }) rs) (heardOn bus 0 rs) ∙ heards-on bus 0 rs,
-    λ file. count-at (openOf file) file)
+every-record-once = (
+  λ bus rs. records-of (endTime (record { 0 = 0 }) rs) (heardOn bus 0 rs) ∙ heards-on bus 0 rs,
+  λ file. count-at (openOf file) file,
+)

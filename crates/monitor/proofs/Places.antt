@@ -162,7 +162,8 @@ module _ (all : List WordRecord) where
 
 pub in-order : InOrder
 unfolding logOf entriesOn
-in-order rs =
-    (rise-merged rs (entriesOn 0 rs) (entries-at rs 0 (groupsOn 0 rs) (groups-on rs 0)) (entriesOn 1 rs) 0 (rise-on 0 rs) (rise-on 1 rs)
-    (entries-at rs 1 (groupsOn 1 rs) (groups-on rs 1)),
-    λ bus. begins-at rs bus (groupsOn bus rs) (groups-on rs bus))
+in-order rs = (
+  rise-merged rs (entriesOn 0 rs) (entries-at rs 0 (groupsOn 0 rs) (groups-on rs 0)) (entriesOn 1 rs) 0 (rise-on 0 rs) (rise-on 1 rs)
+      (entries-at rs 1 (groupsOn 1 rs) (groups-on rs 1)),
+  λ bus. begins-at rs bus (groupsOn bus rs) (groups-on rs bus),
+)

@@ -111,11 +111,14 @@ sound-from : (bus : ℕ) (ps : List Placed) (end : Moment) (place : ℕ) (first 
     → Chain bus 0 (first ∷ (rest ++ heards ps)) → lastAfter (first .time .0) (rest ++ heards ps) ≤ end .0 → end .0 < 2 ^ 48
     → Each (Sound bus) (groupsFrom end place first rest ps)
 unfolding groupsFrom
-sound-from bus [] end place first rest chain late clock = (record {
+sound-from bus [] end place first rest chain late clock = (
+  record {
     chain = (chain .0, chain .1, chain .2, chain-front bus rest [] (first .time .0) (chain .3));
     late = omega (arith, late, last-append rest [] (first .time .0));
     clock = clock;
-  }, tt)
+  },
+  tt,
+)
 sound-from bus (p ∷ ps) end place first rest chain late clock =
     go (belongs (partIn first rest (p .heard)))
     (sound-from bus ps end place first (rest ++ (p .heard ∷ []))

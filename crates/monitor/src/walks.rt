@@ -62,8 +62,7 @@ fn stand(heard: WordRecord) -> Standing
 
 impl Walk {
     // Gives the walk of a bus before any record.
-    // Tables: none. Refusals: none.
-    pub fn start(bus: u8) -> Walk
+    pub(crate) fn start(bus: u8) -> Walk
         ensures walk { λ r. ⌜ r ≡ walkStart bus ⌝ }
     {
         Walk {
@@ -98,7 +97,7 @@ impl Walk {
     fn begin(self, until: Moment, heard: WordRecord) -> Side
         ensures side { λ r. ⌜ r ≡ begunWith self until heard ⌝ }
     {
-        let found = self.close(until);
+        let closed = self.close(until);
         let standing = stand(heard);
         let clock = heard.time;
         let walk = Walk {
@@ -110,7 +109,7 @@ impl Walk {
         };
         Side {
             walk,
-            found,
+            found: closed,
             stop: Stop::Reading,
         }
     }

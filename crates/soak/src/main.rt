@@ -7,8 +7,8 @@ mod commands;
 mod counts;
 mod draws;
 mod hosts;
-mod lines;
 mod messages;
+mod outputs;
 mod refusals;
 mod setups;
 mod strays;
@@ -16,12 +16,12 @@ mod streams;
 mod sums;
 mod sweeps;
 
-use arguments::Number;
 use arguments::argument;
 use benches::Bench;
 use draws::draw_word;
-use lines::write_line;
-use lines::write_usage;
+use lines::Number;
+use outputs::write_line;
+use outputs::write_usage;
 use streams::Stream;
 
 // What goes from call to call.

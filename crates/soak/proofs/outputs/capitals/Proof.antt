@@ -1,8 +1,8 @@
 -- `capitals` is safe and ends: the measure is the number of places left, at most 16. Assumes nothing.
 use Prim.Native.Nat.{_≤_}
 use borrow.Author.Needs.{needs}
-use Rattle.soak.proofs.lines.capitals.Statement.{statement}
-use Rattle.soak.proofs.lines.capitals.Tie as tie
+use Rattle.soak.proofs.outputs.capitals.Statement.{statement}
+use Rattle.soak.proofs.outputs.capitals.Tie as tie
 
 abbrev Inv-loop : tie.InvT-loop
 Inv-loop number text₀ rest₀ i₀ text rest i = i ≤ 16

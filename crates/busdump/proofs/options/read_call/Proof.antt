@@ -1,0 +1,81 @@
+-- `read_call` is safe and ends: the measure is the number of steps that are left. Assumes nothing.
+use borrow.Author.Needs.{needs}
+use Rattle.busdump.proofs.options.read_call.Statement.{statement}
+use Rattle.busdump.proofs.options.read_call.Tie as tie
+
+abbrev Inv-loop : tie.InvT-loop
+Inv-loop options₀ left₀ options left = Unit {0}
+
+abbrev μ-loop : tie.MeasureT-loop
+μ-loop options₀ left₀ options left = left
+
+start-requires : tie.Need-start-requires Inv-loop μ-loop
+start-requires c κs = search needs
+
+arg-count-requires : tie.Need-arg-count-requires Inv-loop μ-loop
+arg-count-requires c κs = search needs
+
+loop-holds : tie.Need-loop-holds Inv-loop μ-loop
+loop-holds c = search needs
+
+step-requires : tie.Need-step-requires Inv-loop μ-loop
+step-requires c κs = search needs
+
+enum-known-next : tie.Need-enum-known-next Inv-loop μ-loop
+enum-known-next c = search needs
+
+enum-known-next-2 : tie.Need-enum-known-next-2 Inv-loop μ-loop
+enum-known-next-2 c = search needs
+
+with-files-requires : tie.Need-with-files-requires Inv-loop μ-loop
+with-files-requires c κs = search needs
+
+returns : tie.Need-returns Inv-loop μ-loop
+returns c = search needs
+
+enum-told : tie.Need-enum-told Inv-loop μ-loop
+enum-told c = search needs
+
+returns-2 : tie.Need-returns-2 Inv-loop μ-loop
+returns-2 c = search needs
+
+enum-told-2 : tie.Need-enum-told-2 Inv-loop μ-loop
+enum-told-2 c = search needs
+
+returns-3 : tie.Need-returns-3 Inv-loop μ-loop
+returns-3 c = search needs
+
+sub-left : tie.Need-sub-left Inv-loop μ-loop
+sub-left c = search needs
+
+loop-less : tie.Need-loop-less Inv-loop μ-loop
+loop-less c = search needs
+
+loop-again : tie.Need-loop-again Inv-loop μ-loop
+loop-again c = search needs
+
+returns-4 : tie.Need-returns-4 Inv-loop μ-loop
+returns-4 c = search needs
+
+pub read-call-spec : {M : Type 1} → statement M
+read-call-spec =
+    tie.close
+    (tie.spec
+    Inv-loop
+    μ-loop
+    start-requires
+    arg-count-requires
+    loop-holds
+    step-requires
+    enum-known-next
+    enum-known-next-2
+    with-files-requires
+    returns
+    enum-told
+    returns-2
+    enum-told-2
+    returns-3
+    sub-left
+    loop-less
+    loop-again
+    returns-4)
