@@ -52,25 +52,26 @@ Fit rs = Each (λ (r : WordRecord). r .time .0 < 2 ^ 64) rs
 
 -- ---- what is known of a record by what it is to an entry
 
-data Known (first : WordRecord) (rest : List WordRecord) (r : WordRecord) : Part → Type 0 where
+pub data Known (first : WordRecord) (rest : List WordRecord) (r : WordRecord) : Part → Type 0 where
   far : isFar first rest r ≡ true → Known first rest r Far
   starts : isFar first rest r ≡ false → Known first rest r Starts
   second : (eqb (length rest) 0 && isSecond first r) ≡ true → Known first rest r Second
-  status : isCommand r ≡ true → (eqb (length rest) 0 && isSecond first r) ≡ false → Known first rest r Status
+  status : isCommand r ≡ true → (eqb (length rest) 0 && isSecond first r) ≡ false → expects first rest r ≡ true → Known first rest r Status
   other : isCommand r ≡ false → Known first rest r Other
 
-known : (first : WordRecord) (rest : List WordRecord) (r : WordRecord) → Known first rest r (partOf first rest r)
+pub known : (first : WordRecord) (rest : List WordRecord) (r : WordRecord) → Known first rest r (partOf first rest r)
 unfolding partOf
 known first rest r = by-far (isFar first rest r) refl
   where
-    by-expects : isFar first rest r ≡ false → isCommand r ≡ true → (eqb (length rest) 0 && isSecond first r) ≡ false → (b : Bool) → Known first rest r (cond b Status Starts)
-    by-expects f c s true = status c s
-    by-expects f c s false = starts f
+    by-expects : isFar first rest r ≡ false → isCommand r ≡ true → (eqb (length rest) 0 && isSecond first r) ≡ false
+        → (b : Bool) → expects first rest r ≡ b → Known first rest r (cond b Status Starts)
+    by-expects f c s true e = status c s e
+    by-expects f c s false e = starts f
 
     by-second : isFar first rest r ≡ false → isCommand r ≡ true → (b : Bool) → (eqb (length rest) 0 && isSecond first r) ≡ b
         → Known first rest r (cond b Second (cond (expects first rest r) Status Starts))
     by-second f c true s = second s
-    by-second f c false s = by-expects f c s (expects first rest r)
+    by-second f c false s = by-expects f c s (expects first rest r) refl
 
     by-command : isFar first rest r ≡ false → (b : Bool) → isCommand r ≡ b
         → Known first rest r (cond (not b) Other (cond (eqb (length rest) 0 && isSecond first r) Second (cond (expects first rest r) Status Starts)))
@@ -95,7 +96,7 @@ joined-second-any first (x ∷ rest) r h =
     absurd (true≢false (sym h ∙ ap (λ (b : Bool). b && isSecond first r) (ne-eqb (suc (length rest)) 0 (λ z. omega (arith, z)))))
 
 -- a record that is no command is no second one
-not-second : (first : WordRecord) (rest : List WordRecord) (r : WordRecord) → isCommand r ≡ false → (eqb (length rest) 0 && isSecond first r) ≡ false
+pub not-second : (first : WordRecord) (rest : List WordRecord) (r : WordRecord) → isCommand r ≡ false → (eqb (length rest) 0 && isSecond first r) ≡ false
 unfolding isSecond
 not-second first rest r h = rw (h) (go (eqb (length rest) 0))
   where
@@ -174,7 +175,7 @@ module _ (bus records : ℕ) (clock : Moment) (place : ℕ) (first : WordRecord)
         ∙ rw (f)
     heard-known Starts (starts f) = rw (f) (begun-open (r .time))
     heard-known Second (second s) = joins Second (joined-second-any first rest r s)
-    heard-known Status (status c s) = joins Status (joined-status first rest r (stays first rest r s) few c)
+    heard-known Status (status c s x) = joins Status (joined-status first rest r (stays first rest r s) few c)
     heard-known Other (other c) = joins Other (joined-other first rest r (stays first rest r (not-second first rest r c)) few c)
 
     heard-open : heardBy (walk (standingOf first rest)) r ≡ cond (belongs (partIn first rest r)) stays-open (next (closesAt first rest r))

@@ -10,3 +10,4 @@ pub mod Apart
 pub mod Places
 pub mod Stays
 pub mod Rules
+pub mod Fews

@@ -1,7 +1,7 @@
 -- What is proved of the log (02 a). Each is proved in proofs/ under the name at its side. Assumes nothing.
 use Prim.Native.Nat.{ℕ, suc, _+_, _^_, _≤_, _<_}
 use mathlib.Core.Path.{_≡_}
-use mathlib.Core.Bool.{cond}
+use mathlib.Core.Bool.{true, false, cond, _&&_}
 use mathlib.Core.List.{List, [], _∷_, _++_}
 use lib.Dec.{eqb}
 use lib.ListN.{length, drop}
@@ -16,7 +16,7 @@ use Rattle.verdict.specs.Verdicts.{judgedOf}
 use Rattle.verdict.specs.declared.verdicts.Verdict.{Verdict}
 use Rattle.verdict.specs.declared.judges.Finding.{Finding}
 use Rattle.verdict.specs.declared.judges.Judged.the-variants as judged
-use Rattle.monitor.specs.Entries.{returnedIn, planOf, outcomeIn}
+use Rattle.monitor.specs.Entries.{isSecond, behindOf, statusesIn, expects, returnedIn, planOf, outcomeIn}
 use Rattle.monitor.specs.Logs.{Group, groupsOn, endTime, entriesOn, logOf, FileLog, fileLog}
 use Rattle.monitor.specs.Machine.{sideStart, readyOf, fedOf, endedBy, givenOf, choiceOf}
 use Rattle.monitor.specs.declared.entries.Outcome.the-variants as outcome
@@ -170,3 +170,13 @@ ByTheRules g =
 -- verdict-of-the-rules
 abbrev pub VerdictOfTheRules : Type 0
 VerdictOfTheRules = (rs : List WordRecord) → Written 0 rs → (bus : ℕ) → Each ByTheRules (groupsOn bus rs)
+
+-- ---- two facts that make the definitions plain
+
+-- A word that fits as the second command is never one whose status is expected: which of the two is tried first changes no entry: never-both
+abbrev pub NeverBoth : Type 0
+NeverBoth = (first : WordRecord) (rest : List WordRecord) (r : WordRecord) → (eqb (length rest) 0 && isSecond first r) ≡ true → expects first rest r ≡ false
+
+-- An entry has at most two statuses, so that none is left out of it: statuses-few
+abbrev pub StatusesFew : Type 0
+StatusesFew = (bus : ℕ) (rs : List WordRecord) → Each (λ (g : Group). length (statusesIn (behindOf (g .first) (g .rest))) ≤ 2) (groupsOn bus rs)

@@ -1,6 +1,5 @@
 -- One law for each way out. Assumes nothing.
 use Rattle.monitor.proofs.Cases.{part-far, part-other, part-second, part-status, part-starts}
-use native.Mathlib.Omega.{arith}
 use borrow.Author.Needs.{needs}
 use Rattle.monitor.proofs.openings.Opening.part.Statement.{statement}
 use Rattle.monitor.proofs.openings.Opening.part.Tie as tie
@@ -9,7 +8,7 @@ since-requires : tie.Need-since-requires
 since-requires c κs = search needs
 
 returns : tie.Need-returns
-returns c = part-far _ _ _ (c .before .before .before .since .ensures) (omega (arith, c .if1 .taken))
+returns c = search (part-far, needs)
 
 is-command-requires : tie.Need-is-command-requires
 is-command-requires c κs = search needs

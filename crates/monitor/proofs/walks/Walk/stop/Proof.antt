@@ -1,5 +1,5 @@
 -- Field by field. Assumes nothing.
-use Rattle.monitor.specs.Machine.{stoppedBy}
+use Rattle.monitor.proofs.Cases.{stopped}
 use borrow.Author.Needs.{needs}
 use Rattle.monitor.proofs.walks.Walk.stop.Statement.{statement}
 use Rattle.monitor.proofs.walks.Walk.stop.Tie as tie
@@ -8,8 +8,7 @@ close-requires : tie.Need-close-requires
 close-requires c κs = search needs
 
 returns : tie.Need-returns
-unfolding stoppedBy
-returns c = rw (c .before .close .ensures)
+returns c = search (stopped, needs)
 
 pub stop-spec : {M : Type 1} → statement M
 stop-spec = tie.close (tie.spec close-requires returns)
