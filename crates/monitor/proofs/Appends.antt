@@ -18,7 +18,6 @@ use Rattle.verdict.specs.declared.plans.Plan.{Plan}
 use Rattle.monitor.specs.Entries.{isCommand, isDataWord, statusesIn, statusesBy, lastIn, isSpoiled, hasTwins, gapFrom, gapBefore, dataWords}
 use Rattle.monitor.specs.Machine.{withStatus, gapWith}
 use Rattle.monitor.specs.declared.entries.Gap.{Gap}
-use Rattle.monitor.specs.declared.entries.Statuses.{Statuses}
 
 abbrev pub snoc : List WordRecord → WordRecord → List WordRecord
 snoc rs r = rs ++ (r ∷ [])

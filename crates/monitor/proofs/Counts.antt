@@ -1,23 +1,18 @@
 -- Every record is in exactly one entry. Assumes nothing.
 use mathlib.Core.Path.{_≡_, refl, sym, ap, _∙_}
-use mathlib.Core.Bool.{Bool, true, false, not, cond, _&&_, true≢false}
-use Prim.Native.Nat.{ℕ, zero, suc, _+_, _^_, _≤_}
+use mathlib.Core.Bool.{Bool, true, false, cond, true≢false}
+use Prim.Native.Nat.{ℕ, zero, suc, _+_, _≤_}
 use native.Mathlib.Omega.{arith}
-use mathlib.Core.List.{List, [], _∷_, _++_, append-assoc, append-nil}
-use lib.Dec.{eqb, ltb, leb}
+use mathlib.Core.List.{List, [], _∷_, _++_, append-assoc}
+use lib.Dec.{eqb, ltb}
 use lib.ListN.{length, drop, length-append}
-use borrow.Author.Tests.{eq-eqb, ne-eqb, eqb-true, leb-true}
-use Rattle.words.specs.Refusals.{refusedOutOfOrder}
 use Rattle.words.specs.declared.times.Moment.{Moment}
 use Rattle.records.specs.Files.{openOf}
-use Rattle.records.specs.Records.{readOf, inRange}
 use Rattle.records.specs.declared.files.Opened.{Opened}
 use Rattle.records.specs.declared.files.Opened.the-variants as opened
 use Rattle.records.specs.declared.forms.WordRecord.{WordRecord}
-use Rattle.records.specs.declared.forms.Read.{Read}
-use Rattle.records.specs.declared.forms.Read.the-variants as read
 use Rattle.monitor.specs.Entries.{isCommand, partOf, messageOf, entryOf}
-use Rattle.monitor.specs.Logs.{Group, Placed, heardOn, partIn, belongs, closesAt, groupsFrom, groupsOf, groupsOn, endTime, loggedOf, entriesOf, entriesOn, among, merged, logOf, Front, stops, goesOn, frontWith, frontFrom, frontOf, logged, logAt, fileLog}
+use Rattle.monitor.specs.Logs.{Placed, heardOn, partIn, belongs, closesAt, groupsFrom, groupsOf, endTime, entriesOf, entriesOn, among, merged, logOf, frontOf, logAt, fileLog}
 use Rattle.monitor.specs.Theorems.{onBus, recordsOf, recordsIn, countIn, EveryRecordOnce, Each}
 use Rattle.monitor.specs.declared.entries.Entry.the-variants as entry
 use Rattle.monitor.specs.declared.entries.Logged.{Logged}

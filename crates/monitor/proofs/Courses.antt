@@ -2,16 +2,16 @@
 use mathlib.Core.Path.{_≡_, refl, sym, ap, subst, _∙_}
 use mathlib.Core.Bool.{Bool, true, false, cond}
 use mathlib.Core.Logic.{_⊎_, inl, inr, ⊎-elim}
-use Prim.Native.Nat.{ℕ, suc, _+_, _^_, _<_}
+use Prim.Native.Nat.{ℕ, _+_, _^_, _<_}
 use native.Mathlib.Omega.{arith}
-use mathlib.Core.List.{List, [], _∷_, _++_}
+use mathlib.Core.List.{List, [], _∷_}
 use lib.Dec.{ltb}
 use lib.ListN.{length, getD}
-use Rattle.records.specs.Files.{version, openOf}
+use Rattle.records.specs.Files.{openOf}
 use Rattle.records.specs.declared.forms.WordRecord.{WordRecord}
-use Rattle.monitor.specs.Logs.{entriesOn, among, merged, logOf, frontOf, FileLog, logged, fileLog}
+use Rattle.monitor.specs.Logs.{entriesOn, merged, logOf, frontOf, fileLog}
 use Rattle.monitor.specs.Machine.{sideStart, readyWith, readyOf, isFeed, givenOf, wantsMore, choiceAlone, choiceAgainst, choiceOf}
-use Rattle.monitor.specs.Theorems.{Course, over, feed-first, end-first, give-first, feed-second, end-second, give-second, EndsAs, LogOfTheFile}
+use Rattle.monitor.specs.Theorems.{Course, over, feed-first, end-first, give-first, feed-second, end-second, give-second, LogOfTheFile}
 use Rattle.monitor.specs.declared.entries.Logged.{Logged}
 use Rattle.monitor.specs.declared.walks.Found.{Found}
 use Rattle.monitor.specs.declared.walks.Found.the-variants as found
@@ -24,7 +24,7 @@ use Rattle.monitor.specs.declared.sides.Choice.{Choice}
 use Rattle.monitor.specs.declared.sides.Choice.the-variants.{FeedFirst, FeedSecond, GiveFirst, GiveSecond, Over}
 use Rattle.monitor.proofs.Summaries.{next-fits}
 use Rattle.monitor.proofs.Groups.{walk-entries}
-use Rattle.monitor.proofs.Futures.{in-range, front-each, front-few, Told, recordsAfter, told, told-wants, told-ended, told-fed, withFirst, told-given, told-over}
+use Rattle.monitor.proofs.Futures.{in-range, front-each, front-few, Told, recordsAfter, told, told-ended, told-fed, told-given, told-over}
 
 -- ---- what a choice says of the two sides
 

@@ -1,10 +1,10 @@
 -- A second command is never a status that is expected, and an entry has at most two statuses. Assumes nothing.
-use mathlib.Core.Path.{_≡_, refl, sym, ap, subst, _∙_}
+use mathlib.Core.Path.{_≡_, refl, sym, ap, _∙_}
 use mathlib.Core.Bool.{Bool, true, false, not, cond, _&&_, _||_, true≢false}
 use mathlib.Core.Logic.{_⊎_, inl, inr}
 use Prim.Native.Nat.{ℕ, suc, _≤_}
 use native.Mathlib.Omega.{arith}
-use mathlib.Core.List.{List, [], _∷_, _++_}
+use mathlib.Core.List.{List, [], _∷_}
 use lib.Dec.{eqb}
 use lib.ListN.{length}
 use borrow.Author.Tests.{ne-eqb, eqb-true, eqb-false, not-true}
@@ -14,15 +14,15 @@ use Rattle.words.proofs.Truth.{and-both}
 use Rattle.records.specs.declared.forms.WordRecord.{WordRecord}
 use Rattle.verdict.specs.Plans.{isPair}
 use Rattle.monitor.specs.Entries.{isCommand, isSecond, commandsOf, behindOf, statusesIn, statusesBy, statusesOf, isFor, isFrom, expects, partOf}
-use Rattle.monitor.specs.Logs.{Group, Placed, heardOn, partIn, belongs, closesAt, groupsFrom, groupsOf, groupsOn, endTime}
+use Rattle.monitor.specs.Logs.{Group, Placed, heardOn, partIn, belongs, closesAt, groupsFrom, groupsOf, endTime}
 use Rattle.monitor.specs.Theorems.{Each, NeverBoth, StatusesFew}
 use Rattle.monitor.specs.declared.entries.Commands.{Commands}
 use Rattle.monitor.specs.declared.entries.Commands.the-variants as commands
 use Rattle.monitor.specs.declared.openings.Part.{Part}
 use Rattle.monitor.specs.declared.openings.Part.the-variants.{Far, Starts, Second, Status, Other}
 use Rattle.monitor.proofs.Appends.{snoc, statuses-more, statuses-same}
-use Rattle.monitor.proofs.Summaries.{Stays, stays}
-use Rattle.monitor.proofs.Groups.{Known, far, starts, second, status, other, known, not-second}
+use Rattle.monitor.proofs.Summaries.{stays}
+use Rattle.monitor.proofs.Groups.{Known, second, status, other, known, not-second}
 
 -- ---- the second command
 

@@ -1,6 +1,6 @@
 -- What is still to come of a side with the bytes that it has not taken: feeding and ending change nothing of it, giving takes the first. Assumes nothing.
 use mathlib.Core.Path.{_≡_, refl, sym, ap, _∙_}
-use mathlib.Core.Bool.{Bool, true, false, not, cond, _&&_, true≢false}
+use mathlib.Core.Bool.{Bool, true, false, cond, _&&_, true≢false}
 use Prim.Native.Nat.{ℕ, zero, suc, _+_, _^_, _≤_, _<_}
 use native.Mathlib.Omega.{arith}
 use mathlib.Core.List.{List, [], _∷_, _++_}
@@ -17,8 +17,8 @@ use Rattle.records.specs.declared.forms.WordRecord.{WordRecord}
 use Rattle.records.specs.declared.forms.Read.{Read}
 use Rattle.records.specs.declared.forms.Read.the-variants as read
 use Rattle.records.proofs.Theorems.{read-good, read-front}
-use Rattle.monitor.specs.Logs.{Front, stops, goesOn, frontWith, frontFrom, frontOf}
-use Rattle.monitor.specs.Machine.{next64, begunWith, passedWith, heardAs, heardMessage, heardWhere, heardBy, stoppedBy, takenBy, readWith, readBy, readyWith, readyOf, isFeed, wantsMore, fedFrom, fedOf, endedWith, endedBy, givenOf, foundAt, partFor}
+use Rattle.monitor.specs.Logs.{Front, stops, goesOn, frontWith, frontFrom}
+use Rattle.monitor.specs.Machine.{next64, begunWith, passedWith, heardAs, heardMessage, heardWhere, heardBy, stoppedBy, takenBy, readWith, readBy, readyWith, readyOf, isFeed, wantsMore, fedFrom, fedOf, endedWith, endedBy, givenOf, partFor}
 use Rattle.monitor.specs.Theorems.{Each}
 use Rattle.monitor.specs.declared.entries.Logged.{Logged}
 use Rattle.monitor.specs.declared.openings.Opening.{Opening}

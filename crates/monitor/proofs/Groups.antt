@@ -2,20 +2,18 @@
 use mathlib.Core.Path.{_≡_, refl, sym, ap, _∙_}
 use mathlib.Core.Bool.{Bool, true, false, not, cond, _&&_, true≢false}
 use Prim.Native.Nat.{ℕ, suc, _+_, _^_, _≤_, _<_}
-use native.Mathlib.Nat.{mod-eq-of-lt}
 use native.Mathlib.Omega.{arith}
 use mathlib.Core.List.{List, [], _∷_, _++_}
 use lib.Dec.{eqb}
 use lib.ListN.{length, length-append}
-use borrow.Author.Tests.{ltb-true, ne-eqb, eq-eqb, eqb-true, eqb-false}
+use borrow.Author.Tests.{ltb-true, ne-eqb}
 use Rattle.words.specs.Words.{sinceOf}
 use Rattle.words.specs.declared.times.Moment.{Moment}
 use Rattle.words.proofs.Sums.{plus-fits}
 use Rattle.records.specs.declared.forms.WordRecord.{WordRecord}
-use Rattle.verdict.specs.Plans.{isPair}
 use Rattle.monitor.specs.Entries.{isCommand, isSecond, lastIn, isFar, expects, partOf, messageOf, entryOf}
-use Rattle.monitor.specs.Logs.{Group, Placed, heardOn, partIn, belongs, closesAt, groupsFrom, groupsOf, endTime, entriesOf, entriesOn}
-use Rattle.monitor.specs.Machine.{next64, walkStart, standingFrom, foundWhere, foundAt, begunWith, passedWith, joinedBy, heardAs, heardMessage, heardWhere, heardBy, partFor, openedBy, closedAt}
+use Rattle.monitor.specs.Logs.{heardOn, partIn, belongs, closesAt, groupsFrom, groupsOf, endTime, entriesOf, entriesOn}
+use Rattle.monitor.specs.Machine.{next64, walkStart, standingFrom, foundWhere, foundAt, begunWith, passedWith, joinedBy, heardAs, heardMessage, heardWhere, heardBy}
 use Rattle.monitor.specs.Theorems.{Each}
 use Rattle.monitor.specs.declared.entries.Logged.{Logged}
 use Rattle.monitor.specs.declared.entries.Message.{Message}
@@ -31,7 +29,7 @@ use Rattle.monitor.specs.declared.walks.Found.the-variants as found
 use Rattle.monitor.specs.declared.walks.Stop.the-variants as stop
 use Rattle.monitor.specs.declared.walks.Side.{Side}
 use Rattle.monitor.proofs.Appends.{snoc}
-use Rattle.monitor.proofs.Summaries.{openingOf, opened, next-fits, Stays, stays, joined-status, joined-other, joined-second, same-part, same-message}
+use Rattle.monitor.proofs.Summaries.{openingOf, opened, next-fits, stays, joined-status, joined-other, joined-second, same-part, same-message}
 
 -- the entry that was found
 abbrev pub given : Found → List Logged

@@ -1,5 +1,5 @@
 -- The entries come in order of their first record. Assumes nothing.
-use mathlib.Core.Path.{_≡_, refl, sym, ap, subst, _∙_}
+use mathlib.Core.Path.{_≡_, refl, sym, ap, _∙_}
 use mathlib.Core.Bool.{Bool, true, false, cond}
 use mathlib.Core.Logic.{⊎-elim}
 use Prim.Native.Nat.{ℕ, suc, _+_, _≤_, _<_}
@@ -7,13 +7,12 @@ use native.Mathlib.Nat.{eq-or-lt-of-le}
 use native.Mathlib.Omega.{arith}
 use mathlib.Core.List.{List, [], _∷_, _++_}
 use lib.Dec.{eqb, ltb}
-use lib.ListN.{length, getD, drop}
+use lib.ListN.{getD, drop}
 use lib.Seq.{drop-drop}
 use borrow.Author.Tests.{eqb-true, ltb-true, ltb-false}
 use Rattle.words.specs.declared.times.Moment.{Moment}
 use Rattle.records.specs.declared.forms.WordRecord.{WordRecord}
-use Rattle.monitor.specs.Entries.{entryOf}
-use Rattle.monitor.specs.Logs.{Group, Placed, heardOn, partIn, belongs, closesAt, groupsFrom, groupsOf, groupsOn, endTime, loggedOf, entriesOf, entriesOn, among, merged, logOf}
+use Rattle.monitor.specs.Logs.{Group, Placed, heardOn, partIn, belongs, closesAt, groupsFrom, groupsOf, groupsOn, endTime, entriesOf, entriesOn, among, merged, logOf}
 use Rattle.monitor.specs.Theorems.{Rise, Each, BeginsAt, InOrder}
 use Rattle.monitor.specs.declared.entries.Logged.{Logged}
 

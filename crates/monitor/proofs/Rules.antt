@@ -1,26 +1,24 @@
 -- The verdict of an entry is what document 01 gives for its plan and its returned records, handed over as bytes. Assumes nothing.
 use mathlib.Core.Path.{_≡_, refl, sym, ap, subst, _∙_}
-use mathlib.Core.Bool.{Bool, true, false, not, cond, _&&_, _||_, true≢false}
+use mathlib.Core.Bool.{Bool, true, false, not, cond, _||_, true≢false}
 use mathlib.Core.Logic.{⊎-elim}
 use Prim.Native.Nat.{ℕ, zero, suc, _+_, _^_, _≤_, _<_}
 use native.Mathlib.Nat.{eq-or-lt-of-le}
 use native.Mathlib.Omega.{arith}
-use mathlib.Core.List.{List, [], _∷_, _++_, append-assoc, append-nil}
-use lib.Dec.{eqb, ltb, leb}
+use mathlib.Core.List.{List, [], _∷_, _++_, append-assoc}
+use lib.Dec.{eqb}
 use lib.ListN.{length, take, drop, length-append}
 use lib.Seq.{drop-at}
-use borrow.Author.Tests.{eqb-true, eqb-false, eq-eqb, ne-eqb, lt-ltb, le-leb, ltb-true, ltb-false, not-false}
-use Rattle.words.specs.Words.{onClock, sinceOf}
+use borrow.Author.Tests.{eqb-true, eqb-false, eq-eqb, ne-eqb, lt-ltb, le-leb, not-false}
 use Rattle.words.specs.Refusals.{notRefused}
 use Rattle.words.specs.declared.times.Moment.{Moment}
-use Rattle.records.specs.Records.{formOf, readOf}
-use Rattle.records.specs.Files.{Walk, whole, with, formsOf}
+use Rattle.records.specs.Records.{formOf}
+use Rattle.records.specs.Files.{whole, with, formsOf}
 use Rattle.records.specs.Theorems.{Fits}
 use Rattle.records.specs.declared.forms.WordRecord.{WordRecord}
-use Rattle.records.specs.declared.forms.Read.{Read}
 use Rattle.records.proofs.Theorems.{read-written}
 use Rattle.verdict.specs.Plans.{isPossible, planRefusal}
-use Rattle.verdict.specs.Verdicts.{recordRefusal, goOn, returnedFrom, returnedOf, findingOf, verdictOf, judgedOf}
+use Rattle.verdict.specs.Verdicts.{recordRefusal, returnedFrom, returnedOf, findingOf, verdictOf, judgedOf}
 use Rattle.verdict.specs.Theorems.{lastAfter}
 use Rattle.verdict.specs.declared.verdicts.Verdict.{Verdict}
 use Rattle.verdict.specs.declared.plans.Plan.{Plan}
@@ -30,12 +28,9 @@ use Rattle.verdict.proofs.Findings.{taken-given}
 use Rattle.monitor.specs.Entries.{isSecond, commandsOf, lastCommand, behindOf, lastIn, isFar, ownNumber, ownBad, ownLast, returnedIn, hasTwins, planOf, outcomeIn}
 use Rattle.monitor.specs.Logs.{Group, Placed, heardOn, partIn, belongs, closesAt, groupsFrom, groupsOf, groupsOn, endTime}
 use Rattle.monitor.specs.Theorems.{onBus, Each, Written, ByTheRules, VerdictOfTheRules}
-use Rattle.monitor.specs.declared.entries.Commands.{Commands}
-use Rattle.monitor.specs.declared.entries.Commands.the-variants as commands
-use Rattle.monitor.specs.declared.entries.Outcome.{Outcome}
 use Rattle.monitor.specs.declared.entries.Outcome.the-variants as outcome
 use Rattle.monitor.proofs.Appends.{last-time, last-split}
-use Rattle.monitor.proofs.Summaries.{last-behind, own-last, plan-bus, plan-last, plan-until}
+use Rattle.monitor.proofs.Summaries.{last-behind, own-last, plan-bus, plan-until}
 use Rattle.monitor.proofs.Groups.{far-later}
 use Rattle.monitor.proofs.Futures.{in-range}
 use Rattle.monitor.proofs.Counts.{heards, heards-on}

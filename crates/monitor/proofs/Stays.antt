@@ -1,22 +1,20 @@
 -- A file gives the log of the records before the first that is refused. Assumes nothing.
-use mathlib.Core.Path.{_≡_, refl, sym, ap, _∙_}
-use mathlib.Core.Bool.{Bool, true, false, cond}
-use Prim.Native.Nat.{ℕ, zero, suc, _≤_, _<_}
+use mathlib.Core.Path.{_≡_, refl, ap, _∙_}
+use mathlib.Core.Bool.{Bool, cond}
+use Prim.Native.Nat.{ℕ, zero, suc, _≤_}
 use native.Mathlib.Omega.{arith}
 use mathlib.Core.List.{List, [], _∷_, _++_, append-assoc}
-use lib.Dec.{eqb, ltb}
 use lib.ListN.{length, drop, length-append}
 use lib.Seq.{drop-at}
-use borrow.Author.Tests.{ne-eqb, lt-ltb, le-ltb}
+use borrow.Author.Tests.{lt-ltb, le-ltb}
 use Rattle.words.specs.declared.times.Moment.{Moment}
-use Rattle.records.specs.Records.{formOf, readOf}
+use Rattle.records.specs.Records.{formOf}
 use Rattle.records.specs.Files.{formsOf, openOf}
 use Rattle.records.specs.Theorems.{Fits}
 use Rattle.records.specs.declared.forms.WordRecord.{WordRecord}
 use Rattle.records.specs.declared.forms.Read.{Read}
-use Rattle.records.specs.declared.forms.Read.the-variants as read
 use Rattle.records.proofs.Theorems.{read-good, read-written}
-use Rattle.monitor.specs.Logs.{endTime, Front, stops, goesOn, frontWith, frontFrom, frontOf, logged, FileLog, fileLog}
+use Rattle.monitor.specs.Logs.{endTime, Front, stops, goesOn, frontWith, frontFrom, frontOf, logged, fileLog}
 use Rattle.monitor.specs.Theorems.{Written, EndsBy, at-end, unread, earlier, LogStays}
 use Rattle.monitor.proofs.Futures.{front-none, front-some}
 

@@ -1,11 +1,11 @@
 -- What an open message of the machine is: the summary of its records. A record more makes it the summary of them and that record; what a record is to it,
 -- and what it closes to, is as the definition says. Assumes nothing.
-use mathlib.Core.Path.{_≡_, refl, sym, ap, subst, _∙_}
+use mathlib.Core.Path.{_≡_, refl, sym, ap, _∙_}
 use mathlib.Core.Bool.{Bool, true, false, not, cond, _&&_, _||_, or-false}
-use Prim.Native.Nat.{ℕ, zero, suc, _+_, _-_, _^_, _≤_, _<_}
+use Prim.Native.Nat.{ℕ, suc, _+_, _-_, _^_, _≤_, _<_}
 use native.Mathlib.Nat.{mod-eq-of-lt}
 use native.Mathlib.Omega.{arith}
-use mathlib.Core.List.{List, [], _∷_, _++_}
+use mathlib.Core.List.{List, [], _∷_}
 use lib.Dec.{eqb, ltb}
 use lib.ListN.{length, getD, take, drop, length-append, length-drop, drop-of-length-le}
 use lib.Seq.{drop-nil, take-append-le, drop-append-le}
@@ -30,7 +30,6 @@ use Rattle.monitor.specs.declared.entries.Statuses.the-variants as statu
 use Rattle.monitor.specs.declared.entries.Gap.{Gap}
 use Rattle.monitor.specs.declared.entries.Gap.the-variants as gap
 use Rattle.monitor.specs.declared.entries.Outcome.{Outcome}
-use Rattle.monitor.specs.declared.entries.Outcome.the-variants as outcome
 use Rattle.monitor.specs.declared.openings.Heads.{Heads}
 use Rattle.monitor.specs.declared.openings.Opening.{Opening}
 use Rattle.monitor.specs.declared.openings.Part.the-variants.{Second, Status, Other}

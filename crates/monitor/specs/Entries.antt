@@ -1,7 +1,7 @@
 -- Document 02, request a), "A log of whole messages": what belongs to an entry, and what the entry says. An entry is its records, in the order of the
 -- file: the first, and those after it. Assumes nothing.
 use Prim.Native.Nat.{ℕ, zero, suc, _+_, _-_}
-use mathlib.Core.Bool.{Bool, true, false, not, cond, _&&_, _||_}
+use mathlib.Core.Bool.{Bool, false, not, cond, _&&_, _||_}
 use mathlib.Core.List.{List, [], _∷_}
 use lib.Dec.{eqb, ltb, leb}
 use lib.ListN.{length, drop, take}

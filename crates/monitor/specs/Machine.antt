@@ -19,7 +19,6 @@ use Rattle.verdict.specs.Plans.{isPair, isPossible}
 use Rattle.verdict.specs.Numbers.{good}
 use Rattle.verdict.specs.Facts.{factOf}
 use Rattle.verdict.specs.Verdicts.{expectedAt, finishOf}
-use Rattle.verdict.specs.declared.verdicts.Verdict.{Verdict}
 use Rattle.monitor.specs.Entries.{isCommand, isDataWord, isFor, isFrom, planWith, gapFrom}
 use Rattle.monitor.specs.declared.entries.Commands.{Commands}
 use Rattle.monitor.specs.declared.entries.Commands.the-variants as commands

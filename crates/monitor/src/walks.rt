@@ -75,7 +75,7 @@ impl Walk {
     }
 
     // Gives the standing entry, closed at Q.
-    pub(crate) fn close(self, until: Moment) -> Found
+    fn close(self, until: Moment) -> Found
         ensures found { λ r. ⌜ r ≡ foundAt self until ⌝ }
     {
         let place = self.place;

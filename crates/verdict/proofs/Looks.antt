@@ -9,7 +9,7 @@ use lib.ListN.{length}
 use Rattle.records.specs.declared.forms.WordRecord.{WordRecord}
 use Rattle.verdict.specs.Numbers.{good}
 use Rattle.verdict.specs.Facts.{factOf, endOf}
-use Rattle.verdict.specs.Verdicts.{expectedAt, finding, finishOf, verdictOf}
+use Rattle.verdict.specs.Verdicts.{expectedAt, finding, finishOf}
 use Rattle.verdict.specs.Theorems.{foundAfter, lastAfter, LookByLook}
 use Rattle.verdict.specs.declared.judges.Finding.{Finding}
 use Rattle.verdict.specs.declared.plans.Plan.{Plan}

@@ -3,7 +3,6 @@ use borrow.Author.Needs.{needs}
 use Rattle.verdict.proofs.judges.refused.Statement.{statement}
 use Rattle.verdict.proofs.judges.refused.Tie as tie
 
--- /tmp/v/target/rlib/words.rlib/interface/lang/src/refusals.rt:3:28
 enum-told : tie.Need-enum-told
 enum-told c = search needs
 

@@ -8,7 +8,6 @@ use Rattle.monitor.proofs.walks.Walk.hear_in.Tie as tie
 part-requires : tie.Need-part-requires
 part-requires c κs = search needs
 
--- /work/main/target/rlib/words.rlib/interface/lang/src/times.rt:10:42
 enum-told : tie.Need-enum-told
 enum-told c = search needs
 

@@ -8,7 +8,6 @@ use Rattle.verdict.proofs.plans.Expected.end.Tie as tie
 since-requires : tie.Need-since-requires
 since-requires c κs = search needs
 
--- /tmp/v/target/rlib/words.rlib/interface/lang/src/times.rt:10:42
 enum-told : tie.Need-enum-told
 enum-told c = search needs
 
@@ -16,7 +15,6 @@ returns : tie.Need-returns
 unfolding endOf
 returns c = rw (c .before .before .enum-told .given .1, ← c .before .before .before .before .since .ensures, le-leb _ _ (c .if1 .taken))
 
--- /tmp/v/target/rlib/words.rlib/interface/lang/src/times.rt:8:34
 enum-told-2 : tie.Need-enum-told-2
 enum-told-2 c = search needs
 
