@@ -1,4 +1,4 @@
-/* What busdump does, in plain C, written from request a of document 02 and its readings alone: dump FILE. It writes the same
+/* What busdump does, in plain C, made from request a of document 02 and DECISIONS 42 to 46 alone: dump FILE. It writes the same
  * lines in constant memory: two walks over the file, one a bus, each giving the entries of its bus in order, are merged by
  * the place of an entry's first record. Exit status: 0 the log is written, also of a refused file; 2 wrong usage, or a file
  * that cannot be read. */
@@ -438,7 +438,7 @@ static inline void take_apart(record *r, uint64_t time, uint64_t lower)
     r->valid = r->sync < 2 && r->faults == 0 && __builtin_parity(r->word) != r->parity;
 }
 
-/* "then record by record 3, 4, 5"; then 6, "a record earlier than the one before". 0 where it is read. */
+/* "then record by record 3, 4, 5"; then 6, "A record earlier than the one before is refused with 6". 0 where it is read. */
 static inline unsigned read_one(reader *in, uint64_t *lower)
 {
     if (in->behind - in->at < PLAIN_RECORD)

@@ -1,5 +1,6 @@
 -- The terminal in a monitor's log (02 a): a command with its data words and the answer of the terminal, alone on a bus, with a later record far enough
--- behind, is one entry, of verdict 0 or, with message error or busy in its status, 8 or 9. Proved in proofs/ under the name above it. Assumes nothing.
+-- behind, is one entry, of verdict 0 or, with message error or busy in its status, 8 or 9. The command is a legal one, to which the terminal answers without
+-- message error: so 8 is said and does not come. Proved in proofs/ under the name above it. Assumes nothing.
 use mathlib.Core.Path.{_≡_}
 use Prim.Native.Nat.{ℕ, _+_, _<_}
 use mathlib.Core.Bool.{true, false, cond}

@@ -28,7 +28,7 @@ use Rattle.monitor.proofs.Futures.{in-range, front-each, front-few, Tol
 
 -- ---- what a choice says of the two sides
 
-data Chosen : Ready → Ready → Choice → Type 0 where
+pub data Chosen : Ready → Ready → Choice → Type 0 where
   first-feeds : (y : Ready) → Chosen ready.Feed y FeedFirst
   second-feeds : (p : ℕ) → Chosen (ready.Give p) ready.Feed FeedSecond
   second-feeds-alone : Chosen ready.Over ready.Feed FeedSecond
@@ -38,7 +38,7 @@ data Chosen : Ready → Ready → Choice → Type 0 where
   second-gives-alone : (q : ℕ) → Chosen ready.Over (ready.Give q) GiveSecond
   both-over : Chosen ready.Over ready.Over Over
 
-chosen : (x y : Ready) → Chosen x y (choiceOf x y)
+pub chosen : (x y : Ready) → Chosen x y (choiceOf x y)
 unfolding choiceAlone choiceAgainst
 chosen ready.Feed y = first-feeds y
 chosen (ready.Give p) ready.Feed = second-feeds p
@@ -117,11 +117,11 @@ same-place s us f rest q h e =
     let same : f ∷ rest ≡ g .0 ∷ g .1 = sym e ∙ g .3 in
     ap (λ (l : List Logged). getD l 0 f .place) same ∙ g .2
 
-wants-first : (a b : Side) → choiceOf (readyOf a) (readyOf b) ≡ FeedFirst → wantsMore a ≡ true
+pub wants-first : (a b : Side) → choiceOf (readyOf a) (readyOf b) ≡ FeedFirst → wantsMore a ≡ true
 unfolding wantsMore
 wants-first a b h = first-wants (readyOf a) (readyOf b) (subst (Chosen (readyOf a) (readyOf b)) h (chosen (readyOf a) (readyOf b)))
 
-wants-second : (a b : Side) → choiceOf (readyOf a) (readyOf b) ≡ FeedSecond → wantsMore b ≡ true
+pub wants-second : (a b : Side) → choiceOf (readyOf a) (readyOf b) ≡ FeedSecond → wantsMore b ≡ true
 unfolding wantsMore
 wants-second a b h = second-wants (readyOf a) (readyOf b) (subst (Chosen (readyOf a) (readyOf b)) h (chosen (readyOf a) (readyOf b)))
 

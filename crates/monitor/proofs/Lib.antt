@@ -5,9 +5,11 @@ pub mod Summaries
 pub mod Groups
 pub mod Futures
 pub mod Courses
+pub mod Givens
 pub mod Counts
 pub mod Apart
 pub mod Places
+pub mod Shares
 pub mod Stays
 pub mod Rules
 pub mod Fews

@@ -66,7 +66,7 @@ rise-on bus rs = rise-of (endTime (record { 0 = 0 }) rs) (heardOn bus 0 rs) (hea
 
 module _ (all : List WordRecord) (bus : ℕ) where
   -- it is that one, of that bus
-  abbrev At : ℕ → WordRecord → Type 0
+  abbrev pub At : ℕ → WordRecord → Type 0
   At place r = (after : List WordRecord) × (drop place all ≡ r ∷ after) × (r .bus ≡ bus)
 
   abbrev AtPlaced : Placed → Type 0
@@ -85,7 +85,7 @@ module _ (all : List WordRecord) (bus : ℕ) where
       go true h again = ((rs, e, eqb-true (r .bus) bus h), again)
       go false h again = again
 
-  abbrev AtGroup : Group → Type 0
+  abbrev pub AtGroup : Group → Type 0
   AtGroup g = At (g .place) (g .first)
 
   groups-at : (ps : List Placed) (end : Moment) (place : ℕ) (first : WordRecord) (rest : List WordRecord) → At place first → Each AtPlaced ps

@@ -77,6 +77,10 @@ LogOfTheFile =
     → (es : List Logged) (a b : Side) → Course (sideStart 0) bytes (sideStart 1) bytes es a b
     → (es ≡ fileLog (version ∷ bytes) .entries) × EndsAs (fileLog (version ∷ bytes)) a × EndsAs (fileLog (version ∷ bytes)) b
 
+-- And there is such a course for every file, so that the log is given to its end: log-is-given
+abbrev pub LogIsGiven : Type 0
+LogIsGiven = (bytes : List ℕ) → (es : List Logged) × (a : Side) × (b : Side) × Course (sideStart 0) bytes (sideStart 1) bytes es a b
+
 -- ---- "every record is in exactly one entry"
 
 -- the records of that bus
@@ -110,6 +114,19 @@ EveryRecordOnce =
 abbrev pub plain : List Logged → List Entry
 plain [] = []
 plain (e ∷ es) = e .entry ∷ plain es
+
+-- the bus of an entry, and the entries of that bus
+abbrev pub busOf : Entry → ℕ
+busOf (entry.Message m) = m .bus
+busOf (entry.Single r) = r .bus
+
+abbrev pub ofBus : ℕ → List Logged → List Logged
+ofBus bus [] = []
+ofBus bus (e ∷ es) = cond (eqb (busOf (e .entry)) bus) (e ∷ ofBus bus es) (ofBus bus es)
+
+-- The log of some records has the entries of each of the two buses, and in their order: log-of-each-bus
+abbrev pub LogOfEachBus : Type 0
+LogOfEachBus = (rs : List WordRecord) → (ofBus 0 (logOf rs) ≡ entriesOn 0 rs) × (ofBus 1 (logOf rs) ≡ entriesOn 1 rs)
 
 -- A bus's entries do not depend on the other bus's records but for the time of the file's last record: buses-apart
 abbrev pub BusesApart : Type 0

@@ -26,7 +26,7 @@ pub enum Statuses {
     Two(StatusWord, StatusWord),
 }
 
-// "the gap before the first status": none without a status; below 0, by so many ticks, where it comes before the middle of the last one's parity bit.
+// "the gap before the first status": none without a status; below 0, by so many ticks, where it comes before the middle of the parity bit of the word before it.
 pub enum Gap {
     None,
     Apart(Ticks),

@@ -1,5 +1,5 @@
 // One bus's side of a log, fed any chunks of the file; and which of two sides is next (02 a). Meaning: specs/Machine.antt.
-// Refusals: 3, 4, 5, 6 of a record end a side, with the entries before it.
+// Refusals: 3, 4, 5, 6 of a record end a side; the entries before it stay.
 ghost use mathlib.Core.Path.{_≡_};
 ghost use Rattle.monitor.specs.Machine.{sideStart, wantsMore, fedOf, endedBy, givenOf, readyOf, choiceAlone, choiceAgainst, choiceOf};
 use crate::walks::Found;
@@ -72,7 +72,7 @@ impl Side {
 
     // Feeds the next bytes of the records of the file, up to where an entry closes or a record is refused, and gives how many were taken: 16 for
     // each record. Bytes of a record that is not whole yet are fed again with the rest of it.
-    // Tables: bytes is only read. Refusals: 3, 4, 5, 6 of a record end the side.
+    // Tables: bytes is only read. Refusals: 4, 5, 6 of a record end the side.
     pub fn feed(self, bytes: &[u8]) -> Fed
         ensures fed { λ r. ⌜ r ≡ fedOf self (now (bytes .entry)) ⌝ }
     {
