@@ -39,7 +39,7 @@ pub(crate) enum Call {
 }
 
 // What an argument is where an option may stand.
-enum Word {
+enum Argument {
     Bus,
     Address,
     From,
@@ -60,32 +60,32 @@ enum Step {
 }
 
 // Gives what an argument is. A dash alone is the name of a file.
-fn word_of(text: &[u8]) -> Word {
+fn argument_of(text: &[u8]) -> Argument {
     if is_same(text, b"-b") {
-        return Word::Bus;
+        return Argument::Bus;
     }
     if is_same(text, b"-a") {
-        return Word::Address;
+        return Argument::Address;
     }
     if is_same(text, b"-f") {
-        return Word::From;
+        return Argument::From;
     }
     if is_same(text, b"-t") {
-        return Word::To;
+        return Argument::To;
     }
     if is_same(text, b"-v") {
-        return Word::InWords;
+        return Argument::InWords;
     }
     if is_same(text, b"-h") || is_same(text, b"--help") {
-        return Word::Help;
+        return Argument::Help;
     }
     if is_same(text, b"--") {
-        return Word::Last;
+        return Argument::Last;
     }
     if !begins_with_dash(text) || is_dash(text) {
-        return Word::File;
+        return Argument::File;
     }
-    Word::Unknown
+    Argument::Unknown
 }
 
 // Says that an option was given before.
@@ -94,8 +94,11 @@ fn refuse_again(place: usize, option: &[u8]) -> Step {
     Step::Wrong
 }
 
-// Says what a value should have been.
+// Says what the value that was just read should have been.
 fn refuse_value(place: usize, wants: &[u8], value: &[u8]) {
+    if os::errno() == ENAMETOOLONG {
+        return refuse(place, wants, b", and this value is too long", b"");
+    }
     if value.len() == 0 {
         return refuse(place, wants, b", and there is none", b"");
     }
@@ -209,7 +212,7 @@ impl Options {
         }
         let asked = number_at(
             self.value_place(),
-            b"-a wants an address, 0 to 31",
+            b"-a wants an address, 0 to 31 in 1 to 20 digits",
             CommandWord::BROADCAST as u64,
         );
         let Number::Is(address) = asked else {
@@ -227,7 +230,7 @@ impl Options {
         }
         let asked = time_at(
             self.value_place(),
-            b"-f wants ticks, a whole number below 2^64",
+            b"-f wants ticks, a whole number below 2^64 in 1 to 20 digits",
         );
         let Number::Is(from) = asked else {
             return Step::Wrong;
@@ -244,7 +247,7 @@ impl Options {
         }
         let asked = time_at(
             self.value_place(),
-            b"-t wants ticks, a whole number below 2^64",
+            b"-t wants ticks, a whole number below 2^64 in 1 to 20 digits",
         );
         let Number::Is(to) = asked else {
             return Step::Wrong;
@@ -272,16 +275,16 @@ impl Options {
         }
         let mut text = [0u8; NAME_BYTES];
         let length = os::arg(place, &mut text);
-        match word_of(&text[..length]) {
-            Word::Bus => self.take_bus(),
-            Word::Address => self.take_address(),
-            Word::From => self.take_from(),
-            Word::To => self.take_to(),
-            Word::InWords => self.take_in_words(),
-            Word::Help => Step::Help,
-            Word::Last => self.files_after(1),
-            Word::File => self.files_after(0),
-            Word::Unknown => {
+        match argument_of(&text[..length]) {
+            Argument::Bus => self.take_bus(),
+            Argument::Address => self.take_address(),
+            Argument::From => self.take_from(),
+            Argument::To => self.take_to(),
+            Argument::InWords => self.take_in_words(),
+            Argument::Help => Step::Help,
+            Argument::Last => self.files_after(1),
+            Argument::File => self.files_after(0),
+            Argument::Unknown => {
                 refuse(
                     place,
                     &text[..length],

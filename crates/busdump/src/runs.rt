@@ -21,11 +21,8 @@ use lines::Block;
 use lines::Sink;
 use words::Refusal;
 
-// Writes the lines that wait. Where they failed before, that has been said.
+// Writes the lines that wait behind a sink that had not failed before the last of them were put, and says what failed, there or here.
 fn flush_lines(listed: Sink, listing: &Block) -> Sink {
-    if listed.failed {
-        return listed;
-    }
     let after = listed.flush(listing);
     if after.failed {
         complain(b"standard output");
@@ -33,10 +30,9 @@ fn flush_lines(listed: Sink, listing: &Block) -> Sink {
     after
 }
 
-// Closes a file that failed by its name. The lines that wait go out first, so that a failure of theirs is seen.
+// Closes a file that failed by its name.
 fn end_in_error(listed: Sink, listing: &mut Block, name: &[u8]) -> Sink {
-    let flushed = flush_lines(listed, listing);
-    let ended = put_named(flushed, listing, b"# error ", name);
+    let ended = put_named(listed, listing, b"# error ", name);
     flush_lines(ended, listing)
 }
 
