@@ -10,6 +10,7 @@ use borrow.Author.Tests.{lt-ltb, ltb-true, le-ltb, le-leb, eq-eqb, eqb-true}
 use Rattle.words.specs.Words.{onClock, wordTicks, dueDistance, addressOf, parityOf, isSpaced, isValid, commandSync, dataSync}
 use Rattle.words.specs.Refusals.{notRefused}
 use Rattle.records.specs.Records.{inRange}
+use Rattle.records.specs.declared.forms.WordRecord.{WordRecord}
 use Rattle.words.proofs.Oddness.{parity-one}
 use Rattle.words.proofs.Inverse.{gaps}
 use Rattle.history.proofs.Tests.{cond-cases}
@@ -75,18 +76,24 @@ module _ (plan : Plan) (w : ℕ) (back : expectedOf plan ≡ partOf w) (bus : �
   abbrev shownBy : ℕ → ℕ
   shownBy status = cond (isUnjudged w) good (flagFact (heardAt due bus commandSync status))
 
+  -- the status decides, where it shows nothing if what is behind it is good
+  pub status-verdict : (status : ℕ) (behind : List WordRecord) → addressOf status ≡ addressOf w
+      → (shownBy status ≡ good → verdictOver (replicate (sentOf w) Data) due (plan .until .0) behind ≡ good)
+      → verdictOf plan (heardAt due bus commandSync status ∷ behind) ≡ shownBy status
+  unfolding factOf
+  status-verdict status behind from full =
+      verdict-of plan (partOf w) back _
+      ∙ verdict-step (statusFor w) (replicate (sentOf w) Data) (plan .last .0) (plan .until .0) (heardAt due bus commandSync status) behind
+      ∙ rw (status-fact (plan .last .0) bus status (addressOf w) (isUnjudged w) from) (first-decides (shownBy status) _ full)
+
   -- a whole answer: its status decides, where it shows nothing with as many data words as are expected
   pub answer-verdict : (status : ℕ) (words : List ℕ) → addressOf status ≡ addressOf w
       → due + wordTicks * length words + listenedLeast ≤ plan .until .0
       → (shownBy status ≡ good → length words ≡ sentOf w)
       → verdictOf plan (heardAt due bus commandSync status ∷ dataFrom (due + wordTicks) bus words) ≡ shownBy status
-  unfolding factOf
   answer-verdict status words from listened full =
-      verdict-of plan (partOf w) back _
-      ∙ verdict-step (statusFor w) (replicate (sentOf w) Data) (plan .last .0) (plan .until .0) (heardAt due bus commandSync status)
-      (dataFrom (due + wordTicks) bus words)
-      ∙ rw (status-fact (plan .last .0) bus status (addressOf w) (isUnjudged w) from)
-      (first-decides (shownBy status) _ (λ clear. data-good bus words (sentOf w) due (plan .until .0) (full clear) listened))
+      status-verdict status (dataFrom (due + wordTicks) bus words) from
+      (λ clear. data-good bus words (sentOf w) due (plan .until .0) (full clear) listened)
 
 -- ---- they are taken
 

@@ -1,4 +1,4 @@
--- The terminal is good in a log: terminal-is-good, terminal-is-good-after-any-past. Assumes nothing.
+-- The terminal in a log: terminal-is-good, terminal-is-good-after-any-past, terminal-is-error. Assumes nothing.
 use mathlib.Core.Path.{_≡_, refl, sym, ap, subst, _∙_}
 use Prim.Native.Nat.{ℕ, suc, _+_, _*_, _≤_, _<_}
 use mathlib.Core.Bool.{true, false, cond}
@@ -13,7 +13,7 @@ use Rattle.terminal.specs.declared.states.Terminal.{Terminal as State}
 use Rattle.terminal.specs.declared.answers.Answer.{Answer}
 use Rattle.history.proofs.Reached.{reachable}
 use Rattle.verdict.specs.Plans.{isSingle, isPossible, isUnjudged}
-use Rattle.verdict.specs.Numbers.{good}
+use Rattle.verdict.specs.Numbers.{good, messageError}
 use Rattle.verdict.specs.Facts.{listenedLeast, flagFact}
 use Rattle.verdict.specs.Verdicts.{verdictOf}
 use Rattle.verdict.specs.declared.plans.Plan.{Plan}
@@ -23,8 +23,8 @@ use Rattle.monitor.specs.declared.entries.Entry.the-variants as entry
 use Rattle.monitor.specs.declared.entries.Outcome.the-variants as outcome
 use Rattle.monitor.proofs.Appends.{snoc, last-snoc}
 use Rattle.agreement.specs.Agreement.{dataFrom, statusHeard, answerHeard, planFor, JudgedSo}
-use Rattle.agreement.specs.Logged.{BackToBack, Asked, messageHeard, LoggedSo, TerminalIsGood, TerminalIsGoodAfterAnyPast}
-use Rattle.agreement.proofs.Agrees.{not-broadcast, from-own, answer, answer-given, answer-judged}
+use Rattle.agreement.specs.Logged.{BackToBack, Asked, messageHeard, LoggedSo, TerminalIsGood, TerminalIsGoodAfterAnyPast, TerminalIsError, LoggedAs, TerminalIsErrorAfterAnyPast}
+use Rattle.agreement.proofs.Agrees.{not-broadcast, from-own, answer, answer-given, answer-judged, error-shown, error-judged}
 use Rattle.agreement.proofs.Heard.{heard-valid}
 use Rattle.agreement.proofs.Joined.{Joins, joined-groups, data-joins, Alone, data-alone, late-alone, status-belongs, far-closes}
 use Rattle.agreement.proofs.Outcomes.{answer-spaced, answer-last, last-append, data-twins, planAt, outcome-own}
@@ -104,7 +104,7 @@ module _ (s : State) (a : Answer) (fits : Fits s a) (c : WordRecord) (ds : List 
   same-plan : (until : Moment) → planAt c (lastIn c ds .time) until ≡ planFor s until
   same-plan until = rw (asked .last, asked .word, asked .bus)
 
-  -- a legal command is a possible plan
+  -- its command is a possible plan
   plan-possible : (until : Moment) → isPossible (planAt c (lastIn c ds .time) until) ≡ true
   unfolding isPossible
   plan-possible until = rw (asked .word) (fits .single)
@@ -163,16 +163,42 @@ fits-logged s a fits c ds asked later behind same-bus clock far =
 
 pub terminal-is-good : TerminalIsGood
 terminal-is-good s sound t transmit sized due legal shown =
-    rw (answer-given s sound t transmit sized due legal shown)
-    (fits-logged s (answer s sound t transmit sized due legal shown)
+    rw (answer-given s sound t transmit due shown)
+    (fits-logged s (answer s sound t transmit due shown)
     (record {
       bus = refl;
       due = refl;
-      from = from-own s sound t transmit sized due legal shown;
-      alone = not-broadcast s sound t transmit sized due legal shown;
+      from = from-own s sound t transmit due shown;
+      alone = not-broadcast s sound t transmit due shown;
       single = legal-single (s .setup) (s .message .command .0) legal;
-      judged = answer-judged s sound t transmit sized due legal shown;
+      judged = λ until clock. answer-judged s sound t transmit due shown until clock sized legal;
     }))
 
 pub terminal-is-good-after-any-past : TerminalIsGoodAfterAnyPast
 terminal-is-good-after-any-past address receive transmit past = terminal-is-good _ (reachable address receive transmit past)
+
+-- ---- its answer to an illegal command
+
+-- where the status shows message error that is the verdict
+error-logged : (s : State) (a : Answer) → cond (isUnjudged (s .message .command .0)) good (flagFact (statusHeard a)) ≡ messageError
+    → LoggedSo s a
+    → LoggedAs s a messageError
+error-logged s a shown logged c ds asked later behind same-bus clock far = rw shown at (logged c ds asked later behind same-bus clock far)
+
+pub terminal-is-error : TerminalIsError
+terminal-is-error s sound t transmit due single illegal flags shown =
+    rw (answer-given s sound t transmit due shown)
+    (error-logged s (answer s sound t transmit due shown) (error-shown s sound t transmit due shown illegal flags)
+    (fits-logged s (answer s sound t transmit due shown)
+    (record {
+      bus = refl;
+      due = refl;
+      from = from-own s sound t transmit due shown;
+      alone = not-broadcast s sound t transmit due shown;
+      single = single;
+      judged = λ until clock listened.
+          error-judged s sound t transmit due shown until clock single illegal flags (omega (arith, listened));
+    })))
+
+pub terminal-is-error-after-any-past : TerminalIsErrorAfterAnyPast
+terminal-is-error-after-any-past address receive transmit past = terminal-is-error _ (reachable address receive transmit past)

@@ -1,9 +1,10 @@
--- The status of an answer: its address, and the flag of a busy terminal. Assumes nothing.
+-- The status of an answer: its address, the flag of a busy terminal, that of an illegal command. Assumes nothing.
 use mathlib.Core.Path.{_≡_, refl}
 use Prim.Native.Nat.{ℕ, _^_}
-use mathlib.Core.Bool.{Bool, true, false, not, cond, _&&_, and-false}
+use mathlib.Core.Bool.{Bool, true, false, not, cond, _&&_, _||_, and-false}
 use native.Mathlib.Omega.{arith}
-use Rattle.words.specs.Words.{addressOf, bitOf, hasFlag, isMode}
+use lib.Dec.{eqb}
+use Rattle.words.specs.Words.{addressOf, codeOf, bitOf, hasFlag, isTransmit, isMode}
 use Rattle.words.specs.declared.statuses.Flag.{Flag}
 use Rattle.words.specs.declared.statuses.Flag.the-variants.{MessageError, Subsystem, Terminal, Busy}
 use Rattle.words.proofs.Flags.{flag-alone}
@@ -15,7 +16,7 @@ use Rattle.history.specs.States.{Sound}
 use Rattle.history.proofs.Tests.{cond-cases}
 use Rattle.history.proofs.Holdings.{status-settled}
 use Rattle.verdict.specs.Plans.{isUnjudged}
-use Rattle.verdict.specs.Numbers.{good}
+use Rattle.verdict.specs.Numbers.{good, messageError}
 use Rattle.verdict.specs.Facts.{flagFact}
 
 -- a status with busy in it is not judged good
@@ -55,3 +56,19 @@ module _ (s : State) (w : ℕ) where
       go : (b : Bool) → s .host .busy ≡ b → b ≡ false
       go true busy = absurd (busy-judged r (rw is (busy-settled legal plain busy)) (rw plain at clear))
       go false ready = refl
+
+  -- a command whose flags are judged is not exempt
+  judged-not-exempt : isUnjudged w ≡ false → isExempt (s .setup .address) w ≡ false
+  unfolding isUnjudged isExempt
+  judged-not-exempt = go (eqb (addressOf w) (s .setup .address) && isTransmit w)
+    where
+      go : (own : Bool) → (isMode w && (eqb (codeOf w) 2 || eqb (codeOf w) 18)) ≡ false
+          → (own && isMode w && (eqb (codeOf w) 2 || eqb (codeOf w) 18)) ≡ false
+      go true none = none
+      go false none = refl
+
+  -- so where it is illegal its status is judged a message error
+  pub error-settled : isLegal (s .setup) w ≡ false → isUnjudged w ≡ false → (r : WordRecord) → r .word ≡ settledStatus s w
+      → cond (isUnjudged w) good (flagFact r) ≡ messageError
+  unfolding settledStatus flagFact
+  error-settled illegal flags r is = rw (flags, is, judged-not-exempt flags, illegal, flag-alone MessageError _ .0)

@@ -1,5 +1,5 @@
 -- The two halves of the card agree: the answer of the terminal to a legal command, put on the bus at its due time, is judged good or, with message
--- error or busy in its status, 8 or 9. Proved in proofs/ under the name above it. Assumes nothing.
+-- error or busy in its status, 8 or 9; that to an illegal one is judged 8. Proved in proofs/ under the name above it. Assumes nothing.
 use mathlib.Core.Path.{_≡_}
 use Prim.Native.Nat.{ℕ, _+_, _*_, _≤_}
 use mathlib.Core.Bool.{true, false, cond}
@@ -18,8 +18,8 @@ use Rattle.terminal.specs.declared.states.Terminal.{Terminal as State}
 use Rattle.terminal.specs.declared.answers.Answer.{Answer}
 use Rattle.history.specs.Calls.{Call, afterPast}
 use Rattle.history.specs.States.{Sound}
-use Rattle.verdict.specs.Plans.{planRefusal, isUnjudged}
-use Rattle.verdict.specs.Numbers.{good}
+use Rattle.verdict.specs.Plans.{isSingle, planRefusal, isUnjudged}
+use Rattle.verdict.specs.Numbers.{good, messageError}
 use Rattle.verdict.specs.Facts.{listenedLeast, flagFact}
 use Rattle.verdict.specs.Verdicts.{recordRefusal, verdictOf}
 use Rattle.verdict.specs.declared.plans.Plan.{Plan}
@@ -90,6 +90,21 @@ Agrees = (s : State) → Sound s → AgreesFrom s
 -- agrees-after-any-past
 abbrev pub AgreesAfterAnyPast : Type 0
 AgreesAfterAnyPast = (address : ℕ) (receive transmit : List ℕ) (past : List Call) → AgreesFrom (afterPast address receive transmit past)
+
+-- agrees-illegal: a command that a plan may have, that the terminal holds illegal, neither 2 nor 18 of the mode codes: "First fact found decides", so
+-- Q need not be later than the status word
+abbrev pub AgreesIllegal : Type 0
+AgreesIllegal =
+    (s : State) → Sound s
+    → (t : ℕ) (transmit : List ℕ)
+    → isDue (s .message) t ≡ true
+    → isSingle (s .message .command .0) ≡ true
+    → isLegal (s .setup) (s .message .command .0) ≡ false
+    → isUnjudged (s .message .command .0) ≡ false
+    → isWithheld s ≡ false
+    → (until : Moment) → onClock (until .0) ≡ true
+    → rule1Answer s t transmit .due .0 ≤ until .0
+    → JudgedSo s (rule1Answer s t transmit) until × (verdictOf (planFor s until) (answerHeard (rule1Answer s t transmit)) ≡ messageError)
 
 -- agrees-broadcast: to a command to all terminals nothing is answered, and nothing is judged good
 abbrev pub AgreesBroadcast : Type 0

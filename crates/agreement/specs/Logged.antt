@@ -1,6 +1,6 @@
 -- The terminal in a monitor's log (02 a): a command with its data words and the answer of the terminal, alone on a bus, with a later record far enough
--- behind, is one entry, of verdict 0 or, with message error or busy in its status, 8 or 9. The command is a legal one, to which the terminal answers without
--- message error: so 8 is said and does not come. Proved in proofs/ under the name above it. Assumes nothing.
+-- behind, is one entry, of verdict 0 or, busy being in its status, 9 where the command is legal, and of verdict 8, by message error, where it is not. Proved in
+-- proofs/ under the name above it. Assumes nothing.
 use mathlib.Core.Path.{_≡_}
 use Prim.Native.Nat.{ℕ, _+_, _<_}
 use mathlib.Core.Bool.{true, false, cond}
@@ -16,8 +16,8 @@ use Rattle.terminal.specs.declared.states.Terminal.{Terminal as State}
 use Rattle.terminal.specs.declared.answers.Answer.{Answer}
 use Rattle.history.specs.Calls.{Call, afterPast}
 use Rattle.history.specs.States.{Sound}
-use Rattle.verdict.specs.Plans.{isUnjudged}
-use Rattle.verdict.specs.Numbers.{good}
+use Rattle.verdict.specs.Plans.{isSingle, isUnjudged}
+use Rattle.verdict.specs.Numbers.{good, messageError}
 use Rattle.verdict.specs.Facts.{flagFact}
 use Rattle.monitor.specs.Entries.{isCommand, isDataWord, lastIn}
 use Rattle.monitor.specs.Logs.{entriesOn}
@@ -59,16 +59,18 @@ pub record FirstIs (log : List Logged) (records verdict : ℕ) : Type 0 where
   pub number : message .records ≡ records
   pub judged : message .outcome ≡ outcome.Given (record { 0 = verdict })
 
--- On their bus the records are the message, then one more than 320 ticks after its last, then any. The first entry is the message and no more, with the
--- verdict of `JudgedSo`.
-abbrev pub LoggedSo : State → Answer → Type 0
-LoggedSo s a =
+-- On their bus the records are the message, then one more than 320 ticks after its last, then any. The first entry is the message and no more, with that
+-- verdict.
+abbrev pub LoggedAs : State → Answer → ℕ → Type 0
+LoggedAs s a verdict =
     (c : WordRecord) (ds : List WordRecord) → Asked s c ds
     → (later : WordRecord) (behind : List WordRecord) → later .bus ≡ s .message .bus → onClock (later .time .0) ≡ true
     → lastIn c (ds ++ answerHeard a) .time .0 + noResponseDistance < later .time .0
-    → FirstIs (entriesOn (s .message .bus) (messageHeard c ds a ++ (later ∷ behind)))
-    (length (messageHeard c ds a))
-    (cond (isUnjudged (s .message .command .0)) good (flagFact (statusHeard a)))
+    → FirstIs (entriesOn (s .message .bus) (messageHeard c ds a ++ (later ∷ behind))) (length (messageHeard c ds a)) verdict
+
+-- with the verdict of `JudgedSo`
+abbrev pub LoggedSo : State → Answer → Type 0
+LoggedSo s a = LoggedAs s a (cond (isUnjudged (s .message .command .0)) good (flagFact (statusHeard a)))
 
 -- as in `AgreesFrom`: a message is due, its command legal, its answer not withheld, the transmit table of 1,024 words
 abbrev pub TerminalIsGoodFrom : State → Type 0
@@ -86,3 +88,24 @@ TerminalIsGood = (s : State) → Sound s → TerminalIsGoodFrom s
 -- terminal-is-good-after-any-past
 abbrev pub TerminalIsGoodAfterAnyPast : Type 0
 TerminalIsGoodAfterAnyPast = (address : ℕ) (receive transmit : List ℕ) (past : List Call) → TerminalIsGoodFrom (afterPast address receive transmit past)
+
+-- ---- an illegal command
+
+-- as in `AgreesIllegal`: a command that a plan may have, that the terminal holds illegal, neither 2 nor 18 of the mode codes
+abbrev pub TerminalIsErrorFrom : State → Type 0
+TerminalIsErrorFrom s =
+    (t : ℕ) (transmit : List ℕ)
+    → isDue (s .message) t ≡ true
+    → isSingle (s .message .command .0) ≡ true
+    → isLegal (s .setup) (s .message .command .0) ≡ false
+    → isUnjudged (s .message .command .0) ≡ false
+    → isWithheld s ≡ false
+    → LoggedAs s (rule1Answer s t transmit) messageError
+
+-- terminal-is-error: of every sound terminal
+abbrev pub TerminalIsError : Type 0
+TerminalIsError = (s : State) → Sound s → TerminalIsErrorFrom s
+
+-- terminal-is-error-after-any-past
+abbrev pub TerminalIsErrorAfterAnyPast : Type 0
+TerminalIsErrorAfterAnyPast = (address : ℕ) (receive transmit : List ℕ) (past : List Call) → TerminalIsErrorFrom (afterPast address receive transmit past)
