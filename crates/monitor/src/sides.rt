@@ -71,7 +71,7 @@ impl Side {
     }
 
     // Feeds the next bytes of the records of the file, up to where an entry closes or a record is refused, and gives how many were taken: 16 for
-    // each record. Bytes of a record that is not whole yet are fed again with the rest of it.
+    // each record, a refused one too. Bytes of a record that is not whole yet are fed again with the rest of it.
     // Tables: bytes is only read. Refusals: 4, 5, 6 of a record end the side.
     pub fn feed(self, bytes: &[u8]) -> Fed
         ensures fed { λ r. ⌜ r ≡ fedOf self (now (bytes .entry)) ⌝ }
