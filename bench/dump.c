@@ -1,7 +1,7 @@
-/* What busdump does, in plain C, made from request a of document 02 and DECISIONS 42 to 46 alone: dump FILE. It writes the same
- * lines in constant memory: two walks over the file, one a bus, each giving the entries of its bus in order, are merged by
- * the place of an entry's first record. Exit status: 0 the log is written, also of a refused file; 2 wrong usage, or a file
- * that cannot be read. */
+/* What busdump does, in plain C, made from the text of request a of document 02, read as DECISIONS 42 to 46 read it, and not
+ * from the crates: dump FILE. It writes the same lines in constant memory: two walks over the file, one a bus, each giving the
+ * entries of its bus in order, are merged by the place of an entry's first record. Exit status: 0 the log is written, also of a
+ * refused file; 2 wrong usage, or a file that cannot be read. */
 #include "plain.h"
 
 #include <endian.h>

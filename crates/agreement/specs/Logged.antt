@@ -1,6 +1,6 @@
 -- The terminal in a monitor's log (02 a): a command with its data words and the answer of the terminal, alone on a bus, with a later record far enough
--- behind, is one entry, of verdict 0 or, busy being in its status, 9 where the command is legal, and of verdict 8, by message error, where it is not. Proved in
--- proofs/ under the name above it. Assumes nothing.
+-- behind, is one entry. Its verdict is that of the status, 0, 8 or 9, where the command is legal, and 8 where the terminal holds it illegal. Proved in proofs/
+-- under the name above it. Assumes nothing.
 use mathlib.Core.Path.{_≡_}
 use Prim.Native.Nat.{ℕ, _+_, _<_}
 use mathlib.Core.Bool.{true, false, cond}

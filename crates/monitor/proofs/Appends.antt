@@ -1,12 +1,11 @@
 -- One record more at the end of an entry: what each part of its definition comes to. Assumes nothing.
 use mathlib.Core.Path.{_≡_, refl, sym, ap, _∙_}
-use mathlib.Core.Bool.{Bool, true, false, not, cond, _&&_, _||_, or-false}
+use mathlib.Core.Bool.{Bool, true, false, not, cond, _&&_, _||_, or-false, true≢false}
 use Prim.Native.Nat.{ℕ, zero, suc, _+_, _≤_, _<_}
 use native.Mathlib.Omega.{arith}
 use mathlib.Core.List.{List, [], _∷_, _++_}
-use lib.Dec.{eqb, ltb}
+use lib.Dec.{eqb}
 use lib.ListN.{length, take, drop}
-use borrow.Author.Tests.{lt-ltb, le-ltb, ltb-true, ltb-false}
 use Rattle.words.specs.Words.{isSpaced}
 use Rattle.words.specs.declared.times.Moment.{Moment}
 use Rattle.records.specs.declared.forms.WordRecord.{WordRecord}
@@ -25,6 +24,10 @@ snoc rs r = rs ++ (r ∷ [])
 or-assoc : (a b c : Bool) → (a || (b || c)) ≡ ((a || b) || c)
 or-assoc true b c = refl
 or-assoc false b c = refl
+
+pub or-no : (a b : Bool) → (a || b) ≡ false → (a ≡ false) × (b ≡ false)
+or-no true b h = absurd (true≢false h)
+or-no false b h = (refl, h)
 
 -- ---- the last record
 
@@ -52,13 +55,6 @@ twins-snoc first (x ∷ rest) r = ap (λ (b : Bool). eqb (x .time .0) (first .ti
 pub words-snoc : (rest : List WordRecord) (r : WordRecord) → dataWords (snoc rest r) ≡ dataWords rest + cond (isDataWord r) 1 0
 words-snoc [] r = omega arith
 words-snoc (x ∷ rest) r = ap (λ (n : ℕ). cond (isDataWord x) 1 0 + n) (words-snoc rest r) ∙ omega arith
-
-ltb-suc : (m n : ℕ) → ltb (suc m) (suc n) ≡ ltb m n
-ltb-suc m n = go (ltb m n) refl
-  where
-    go : (b : Bool) → ltb m n ≡ b → ltb (suc m) (suc n) ≡ b
-    go true less = lt-ltb (suc m) (suc n) (omega (arith, ltb-true m n less))
-    go false most = le-ltb (suc m) (suc n) (omega (arith, ltb-false m n most))
 
 abbrev pub isBad : ℕ → WordRecord → Bool
 isBad before r = not (isDataWord r && isSpaced before (r .time .0))

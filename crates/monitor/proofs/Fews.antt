@@ -1,8 +1,8 @@
 -- A second command is never a status that is expected, and an entry has at most two statuses. Assumes nothing.
-use mathlib.Core.Path.{_≡_, refl, sym, ap, _∙_}
+use mathlib.Core.Path.{_≡_, refl, sym, _∙_}
 use mathlib.Core.Bool.{Bool, true, false, not, cond, _&&_, _||_, true≢false}
 use mathlib.Core.Logic.{_⊎_, inl, inr}
-use Prim.Native.Nat.{ℕ, suc, _≤_}
+use Prim.Native.Nat.{ℕ, _≤_}
 use native.Mathlib.Omega.{arith}
 use mathlib.Core.List.{List, [], _∷_}
 use lib.Dec.{eqb}
@@ -20,15 +20,11 @@ use Rattle.monitor.specs.declared.entries.Commands.{Commands}
 use Rattle.monitor.specs.declared.entries.Commands.the-variants as commands
 use Rattle.monitor.specs.declared.openings.Part.{Part}
 use Rattle.monitor.specs.declared.openings.Part.the-variants.{Far, Starts, Second, Status, Other}
-use Rattle.monitor.proofs.Appends.{snoc, statuses-more, statuses-same}
+use Rattle.monitor.proofs.Appends.{or-no, snoc, statuses-more, statuses-same}
 use Rattle.monitor.proofs.Summaries.{stays}
-use Rattle.monitor.proofs.Groups.{Known, second, status, other, known, not-second}
+use Rattle.monitor.proofs.Groups.{Known, second, status, other, known, second-first, not-second}
 
 -- ---- the second command
-
-or-no : (a b : Bool) → (a || b) ≡ false → (a ≡ false) × (b ≡ false)
-or-no true b h = absurd (true≢false h)
-or-no false b h = (refl, h)
 
 -- it goes to another address than the first
 other-address : (first r : WordRecord) → isSecond first r ≡ true → eqb (addressOf (r .word)) (addressOf (first .word)) ≡ false
@@ -50,7 +46,7 @@ unfolding expects isFor
 never-both first [] r h =
     and-no (not (isBroadcast (r .word))) (eqb (addressOf (first .word)) (addressOf (r .word))) _
     (ne-eqb (addressOf (first .word)) (addressOf (r .word)) (λ same. eqb-false (addressOf (r .word)) (addressOf (first .word)) (other-address first r h) (sym same)))
-never-both first (x ∷ rest) r h = absurd (true≢false (sym h ∙ ap (λ (b : Bool). b && isSecond first r) (ne-eqb (suc (length rest)) 0 (λ z. omega (arith, z)))))
+never-both first (x ∷ rest) r h = absurd (second-first first x rest r h)
 
 -- ---- statuses
 
@@ -120,7 +116,7 @@ few-as first rest r few Second (second s) h = few-second rest s
   where
     few-second : (others : List WordRecord) → (eqb (length others) 0 && isSecond first r) ≡ true → FewIn first (snoc others r)
     few-second [] s = rw (s) none
-    few-second (x ∷ others) s = absurd (true≢false (sym s ∙ ap (λ (b : Bool). b && isSecond first r) (ne-eqb (suc (length others)) 0 (λ z. omega (arith, z)))))
+    few-second (x ∷ others) s = absurd (second-first first x others r s)
 few-as first rest r few Status (status c s e) h =
     let still = stays first rest r s in
     let parts = and-both (not (isBroadcast (r .word)) && isFor (commandsOf first rest) (addressOf (r .word))) (not (isFrom (statusesOf first rest) (addressOf (r .word)))) e in

@@ -87,11 +87,13 @@ unfolding isFar
 far-later first rest r h = ltb-true 320 (sinceOf (lastIn first rest .time .0) (r .time .0)) h
 
 -- a second command comes directly after the first
+pub second-first : (first x : WordRecord) (rest : List WordRecord) (r : WordRecord) → (eqb (length (x ∷ rest)) 0 && isSecond first r) ≡ true → ⊥
+second-first first x rest r h = true≢false (sym h ∙ ap (λ (b : Bool). b && isSecond first r) (ne-eqb (suc (length rest)) 0 (λ z. omega (arith, z))))
+
 joined-second-any : (first : WordRecord) (rest : List WordRecord) (r : WordRecord) → (eqb (length rest) 0 && isSecond first r) ≡ true
     → joinedBy (openingOf first rest) Second r ≡ openingOf first (snoc rest r)
 joined-second-any first [] r h = joined-second first r h
-joined-second-any first (x ∷ rest) r h =
-    absurd (true≢false (sym h ∙ ap (λ (b : Bool). b && isSecond first r) (ne-eqb (suc (length rest)) 0 (λ z. omega (arith, z)))))
+joined-second-any first (x ∷ rest) r h = absurd (second-first first x rest r h)
 
 -- a record that is no command is no second one
 pub not-second : (first : WordRecord) (rest : List WordRecord) (r : WordRecord) → isCommand r ≡ false → (eqb (length rest) 0 && isSecond first r) ≡ false

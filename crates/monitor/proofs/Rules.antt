@@ -1,6 +1,6 @@
 -- The verdict of an entry is what document 01 gives for its plan and its returned records, handed over as bytes. Assumes nothing.
 use mathlib.Core.Path.{_≡_, refl, sym, ap, subst, _∙_}
-use mathlib.Core.Bool.{Bool, true, false, not, cond, _||_, true≢false}
+use mathlib.Core.Bool.{Bool, true, false, not, cond, _||_}
 use mathlib.Core.Logic.{⊎-elim}
 use Prim.Native.Nat.{ℕ, zero, suc, _+_, _^_, _≤_, _<_}
 use native.Mathlib.Nat.{eq-or-lt-of-le}
@@ -29,7 +29,7 @@ use Rattle.monitor.specs.Entries.{isSecond, commandsOf, lastCommand, beh
 use Rattle.monitor.specs.Logs.{Group, Placed, heardOn, partIn, belongs, closesAt, groupsFrom, groupsOf, groupsOn, endTime}
 use Rattle.monitor.specs.Theorems.{onBus, Each, Written, ByTheRules, VerdictOfTheRules}
 use Rattle.monitor.specs.declared.entries.Outcome.the-variants as outcome
-use Rattle.monitor.proofs.Appends.{last-time, last-split}
+use Rattle.monitor.proofs.Appends.{or-no, last-time, last-split}
 use Rattle.monitor.proofs.Summaries.{last-behind, own-last, plan-bus, plan-until}
 use Rattle.monitor.proofs.Groups.{far-later}
 use Rattle.monitor.proofs.Futures.{in-range}
@@ -154,10 +154,6 @@ sound-on rs written bus =
 abbrev Strict : ℕ → ℕ → List WordRecord → Type 0
 Strict bus t [] = Unit {0}
 Strict bus t (r ∷ rs) = Fits r × (r .bus ≡ bus) × (t < r .time .0) × Strict bus (r .time .0) rs
-
-or-no : (a b : Bool) → (a || b) ≡ false → (a ≡ false) × (b ≡ false)
-or-no true b h = absurd (true≢false h)
-or-no false b h = (refl, h)
 
 later : (m n : ℕ) → m ≤ n → eqb n m ≡ false → m < n
 later m n l differ = ⊎-elim (λ same. absurd (eqb-false n m differ (sym same))) (λ below. below) (eq-or-lt-of-le l)
