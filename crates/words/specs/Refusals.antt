@@ -1,4 +1,4 @@
--- Document 01, "Numbers for a refused call", row by row. Assumes nothing.
+-- Document 01, "Numbers for a refused call", row by row, and those that document 02 adds. Assumes nothing.
 use Prim.Native.Nat.{ℕ}
 
 -- no refusal (house)
@@ -40,3 +40,7 @@ refusedWrongVersion = 8
 -- "fewer than 16 bytes to write a record"
 abbrev pub refusedNoRoom : ℕ
 refusedNoRoom = 9
+
+-- 02 j: "more messages, another period or an impossible plan is refused with 15"
+abbrev pub refusedSchedule : ℕ
+refusedSchedule = 15

@@ -2,7 +2,7 @@
 // Meaning: specs/Refusals.antt.
 ghost use mathlib.Core.Path.{_≡_};
 ghost use mathlib.Core.List.{[], _∷_};
-ghost use Rattle.words.specs.Refusals.{notRefused, refusedTableSize, refusedOwnAddress, refusedShortRecord, refusedRecordLength, refusedOutOfRange, refusedOutOfOrder, refusedImpossiblePlan, refusedWrongVersion, refusedNoRoom};
+ghost use Rattle.words.specs.Refusals.{notRefused, refusedTableSize, refusedOwnAddress, refusedShortRecord, refusedRecordLength, refusedOutOfRange, refusedOutOfOrder, refusedImpossiblePlan, refusedWrongVersion, refusedNoRoom, refusedSchedule};
 
 // The number of a refusal, 0 where the call was not refused.
 pub struct Refusal(pub u8);
@@ -28,11 +28,13 @@ impl Refusal {
     pub const WRONG_VERSION: Refusal = Refusal(8);
     // "fewer than 16 bytes to write a record"
     pub const NO_ROOM: Refusal = Refusal(9);
+    // "more messages, another period or an impossible plan" in a schedule (02 j)
+    pub const SCHEDULE: Refusal = Refusal(15);
 }
 
 // Gives the numbers above. Nothing calls it: its promise holds each to the definition that contracts cite.
-fn list_numbers() -> [u8; 10]
-    ensures all { λ r. ⌜ r ≡ notRefused ∷ refusedTableSize ∷ refusedOwnAddress ∷ refusedShortRecord ∷ refusedRecordLength ∷ refusedOutOfRange ∷ refusedOutOfOrder ∷ refusedImpossiblePlan ∷ refusedWrongVersion ∷ refusedNoRoom ∷ [] ⌝ }
+fn list_numbers() -> [u8; 11]
+    ensures all { λ r. ⌜ r ≡ notRefused ∷ refusedTableSize ∷ refusedOwnAddress ∷ refusedShortRecord ∷ refusedRecordLength ∷ refusedOutOfRange ∷ refusedOutOfOrder ∷ refusedImpossiblePlan ∷ refusedWrongVersion ∷ refusedNoRoom ∷ refusedSchedule ∷ [] ⌝ }
 {
     [
         Refusal::NONE.0,
@@ -45,5 +47,6 @@ fn list_numbers() -> [u8; 10]
         Refusal::IMPOSSIBLE_PLAN.0,
         Refusal::WRONG_VERSION.0,
         Refusal::NO_ROOM.0,
+        Refusal::SCHEDULE.0,
     ]
 }

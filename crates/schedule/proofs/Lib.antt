@@ -1,0 +1,10 @@
+-- Bounds of loads; lists of messages and frames, as the loops walk them; then what the check says, what a frame is loaded with, in which frames a message comes, and schedules with one message more.
+pub mod Bounds
+pub mod Walks
+pub mod Fills
+pub mod Firsts
+pub mod Outcomes
+pub mod Accepts
+pub mod Sums
+pub mod Remainders
+pub mod Additions
