@@ -1,7 +1,8 @@
-// What goes to standard error, and the usage. Refusals: none.
-use crate::outputs::put_name;
+// The program's name, with which all begins that it says on standard error; what is wrong with an argument; the usage. Refusals: none.
 use libc::STDERR_FILENO;
 use lines::Sink;
+
+pub(crate) const PROGRAM: [u8; 7] = *b"busdump";
 
 // Writes what the program does and how it is called.
 pub(crate) fn write_usage(fd: i32) {
@@ -39,32 +40,13 @@ pub(crate) fn write_usage(fd: i32) {
 // Says what is wrong with an argument: "busdump: argument 2: -b wants A or B, not C".
 pub(crate) fn refuse(place: usize, what: &[u8], why: &[u8], shown: &[u8]) {
     let mut block = io::large_buffer();
-    let begun = Sink::to(STDERR_FILENO).put_text(&mut block, b"busdump: argument ");
+    let begun = Sink::to(STDERR_FILENO).put_text(&mut block, &PROGRAM);
     let placed = begun
-        .put_decimal(&mut block, place as u64)
+        .put_number(&mut block, b": argument ", place as u64)
         .put_text(&mut block, b": ");
-    let told = put_name(placed, &mut block, what).put_text(&mut block, why);
-    put_name(told, &mut block, shown)
+    let told = placed.put_name(&mut block, what);
+    told.put_text(&mut block, why)
+        .put_name(&mut block, shown)
         .put(&mut block, b'\n')
         .flush(&block);
-}
-
-// Writes "busdump: NAME" with no line end.
-fn begin_complaint(name: &[u8]) {
-    let mut block = io::large_buffer();
-    let begun = Sink::to(STDERR_FILENO).put_text(&mut block, b"busdump: ");
-    put_name(begun, &mut block, name).flush(&block);
-}
-
-// Says what failed just now, with the system's reason.
-pub(crate) fn complain(name: &[u8]) {
-    begin_complaint(name);
-    os::fail(b"");
-}
-
-// Says something of a file.
-pub(crate) fn remark(name: &[u8], what: &[u8]) {
-    begin_complaint(name);
-    io::write_all(STDERR_FILENO, what);
-    io::write_all(STDERR_FILENO, b"\n");
 }

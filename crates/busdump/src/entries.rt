@@ -1,7 +1,6 @@
 // The line of an entry (02 a; docs/LINES.md): "Each entry has bus, time, command words, statuses .., numbers of valid data words and of
 // records, the gap before the first status, and the verdict". Refusals: none.
 use crate::options::BUS_A;
-use crate::outputs::put_number;
 use lines::Block;
 use lines::Sink;
 use monitor::Commands;
@@ -50,8 +49,8 @@ fn put_statuses(sink: Sink, block: &mut Block, statuses: Statuses) -> Sink {
 fn put_gap(sink: Sink, block: &mut Block, gap: Gap) -> Sink {
     match gap {
         Gap::None => sink.put_text(block, b" gap=-"),
-        Gap::Apart(ticks) => put_number(sink, block, b" gap=", ticks.0),
-        Gap::Overlap(ticks) => put_number(sink, block, b" gap=-", ticks.0),
+        Gap::Apart(ticks) => sink.put_number(block, b" gap=", ticks.0),
+        Gap::Overlap(ticks) => sink.put_number(block, b" gap=-", ticks.0),
     }
 }
 
@@ -71,7 +70,8 @@ fn put_verdict(sink: Sink, block: &mut Block, verdict: Verdict) -> Sink {
         9 => sink.put_text(block, b" verdict=9 busy"),
         10 => sink.put_text(block, b" verdict=10 spacing"),
         11 => sink.put_text(block, b" verdict=11 left-over"),
-        _ => put_number(sink, block, b" verdict=", number as u64).put_text(block, b" unnamed"),
+        _ => sink.put_number(block, b" verdict=", number as u64)
+            .put_text(block, b" unnamed"),
     }
 }
 
@@ -87,7 +87,7 @@ fn put_address(sink: Sink, block: &mut Block, command: CommandWord) -> Sink {
     if command.is_broadcast() {
         return sink.put_text(block, b"all");
     }
-    put_number(sink, block, b"rt", command.address() as u64)
+    sink.put_number(block, b"rt", command.address() as u64)
 }
 
 // Puts the fields of a command word: "rt5,receive,sa2,count2", or "rt5,transmit,mode,code2" of a mode command.
@@ -97,10 +97,10 @@ fn put_fields(sink: Sink, block: &mut Block, text: &[u8], command: CommandWord) 
     let transmits = command.is_transmit();
     let directed = put_either(addressed, block, transmits, b",transmit", b",receive");
     if command.is_mode() {
-        return put_number(directed, block, b",mode,code", command.count() as u64);
+        return directed.put_number(block, b",mode,code", command.count() as u64);
     }
-    let placed = put_number(directed, block, b",sa", command.subaddress() as u64);
-    put_number(placed, block, b",count", command.words() as u64)
+    let placed = directed.put_number(block, b",sa", command.subaddress() as u64);
+    placed.put_number(block, b",count", command.words() as u64)
 }
 
 // Puts the fields of a message's command words.
@@ -125,8 +125,8 @@ pub(crate) fn put_message(sink: Sink, block: &mut Block, message: Message, in_wo
     let begun = put_either(timed, block, on_a, b" A msg cmd=", b" B msg cmd=");
     let commanded = put_commands(begun, block, commands);
     let answered = put_statuses(commanded, block, statuses);
-    let filled = put_number(answered, block, b" data=", message.words);
-    let counted = put_number(filled, block, b" rec=", message.records);
+    let filled = answered.put_number(block, b" data=", message.words);
+    let counted = filled.put_number(block, b" rec=", message.records);
     let spaced = put_gap(counted, block, gap);
     let judged = put_outcome(spaced, block, outcome);
     if in_words {
@@ -141,9 +141,11 @@ pub(crate) fn put_single(sink: Sink, block: &mut Block, heard: WordRecord) -> Si
     let timed = sink.put_decimal(block, heard.time.0);
     let begun = put_either(timed, block, on_a, b" A one sync=", b" B one sync=");
     let synced = begun.put_decimal(block, heard.sync as u64);
-    let judged = put_number(synced, block, b" faults=", heard.faults as u64);
+    let judged = synced.put_number(block, b" faults=", heard.faults as u64);
     let worded = judged
         .put_text(block, b" word=")
         .put_word(block, heard.word);
-    put_number(worded, block, b" parity=", heard.parity as u64).put(block, b'\n')
+    worded
+        .put_number(block, b" parity=", heard.parity as u64)
+        .put(block, b'\n')
 }

@@ -3,7 +3,6 @@
 mod complaints;
 mod dumps;
 mod entries;
-mod names;
 mod options;
 mod outputs;
 mod readers;

@@ -1,12 +1,11 @@
 // What the arguments ask: which entries are shown and how, and where the files begin (docs/LINES.md, busdump). Refusals: none; a wrong
 // argument is said on standard error, and then nothing else is done.
 use crate::complaints::refuse;
-use crate::names::NAME_BYTES;
-use crate::names::begins_with_dash;
-use crate::names::is_dash;
-use crate::names::is_same;
 use libc::ENAMETOOLONG;
+use lines::NAME_BYTES;
 use lines::Number;
+use lines::is_dash;
+use lines::is_same;
 use lines::read_decimal;
 use std::num::wrapping_add_usize;
 use words::CommandWord;
@@ -57,6 +56,14 @@ enum Step {
     Files(Options),
     Help,
     Wrong,
+}
+
+// Says whether an argument begins with a dash.
+fn begins_with_dash(text: &[u8]) -> bool {
+    if text.len() == 0 {
+        return false;
+    }
+    text[0] == b'-'
 }
 
 // Gives what an argument is. A dash alone is the name of a file.

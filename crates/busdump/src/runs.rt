@@ -1,15 +1,11 @@
 // One run of the program: the files opened, listed and closed, one after the other (02 a). Every file is opened to read alone, so that one
 // which gets the number of a closed standard error takes none of what is said. Refusals: as the closing line of a file says them.
-use crate::complaints::complain;
-use crate::complaints::remark;
+use crate::complaints::PROGRAM;
 use crate::dumps::Dump;
 use crate::dumps::Ending;
-use crate::names::NAME_BYTES;
-use crate::names::is_dash;
 use crate::options::BUS_A;
 use crate::options::BUS_B;
 use crate::options::Options;
-use crate::outputs::put_named;
 use crate::outputs::put_refused;
 use crate::outputs::put_title;
 use crate::readers::Begun;
@@ -18,40 +14,23 @@ use crate::tallies::Tally;
 use libc::SEEK_CUR;
 use libc::STDOUT_FILENO;
 use lines::Block;
+use lines::NAME_BYTES;
 use lines::Sink;
+use lines::complain;
+use lines::is_dash;
+use lines::remark;
 use words::Refusal;
-
-// Writes the lines that wait behind a sink that had not failed before the last of them were put, and says what failed, there or here.
-fn flush_lines(listed: Sink, listing: &Block) -> Sink {
-    let after = listed.flush(listing);
-    if after.failed {
-        complain(b"standard output");
-    }
-    after
-}
-
-// Closes a file that failed by its name.
-fn end_in_error(listed: Sink, listing: &mut Block, name: &[u8]) -> Sink {
-    let ended = put_named(listed, listing, b"# error ", name);
-    flush_lines(ended, listing)
-}
-
-// Says what failed just now, and closes the file by its name.
-fn fail(listed: Sink, listing: &mut Block, name: &[u8]) -> Sink {
-    complain(name);
-    end_in_error(listed, listing, name)
-}
 
 // Says why a file has no log, and closes it by its name.
 fn give_up(listed: Sink, listing: &mut Block, name: &[u8], why: &[u8]) -> Sink {
-    remark(name, why);
-    end_in_error(listed, listing, name)
+    remark(&PROGRAM, name, why);
+    listed.end_in_error(listing, &PROGRAM, name)
 }
 
 // Closes a file that was refused as a whole.
 fn end_refused(listed: Sink, listing: &mut Block, refusal: Refusal) -> Sink {
     let ended = put_refused(listed, listing, refusal.0, 0, 0, 0);
-    flush_lines(ended, listing)
+    ended.flush_told(listing, &PROGRAM)
 }
 
 impl Ending {
@@ -60,11 +39,11 @@ impl Ending {
         let tally = self.tally;
         let listed = tally.listed;
         if listed.failed {
-            complain(b"standard output");
+            complain(&PROGRAM, b"standard output");
             return listed;
         }
         if self.unread {
-            return fail(listed, listing, name);
+            return listed.fail(listing, &PROGRAM, name);
         }
         if !self.agreed {
             return give_up(
@@ -75,7 +54,7 @@ impl Ending {
             );
         }
         let ended = tally.close(listing, self.refusal, self.records);
-        flush_lines(ended, listing)
+        ended.flush_told(listing, &PROGRAM)
     }
 }
 
@@ -109,7 +88,7 @@ fn dump_behind(
             dump_readings(start, ahead, &mut behind, listing, name, options)
         }
         Begun::Refused(_) => give_up(listed, listing, name, b": it changed while it was read"),
-        Begun::Failed => fail(listed, listing, name),
+        Begun::Failed => listed.fail(listing, &PROGRAM, name),
     }
 }
 
@@ -128,7 +107,7 @@ fn dump_both(
             dump_behind(first, &mut ahead, again, listed, listing, name, options)
         }
         Begun::Refused(refusal) => end_refused(listed, listing, refusal),
-        Begun::Failed => fail(listed, listing, name),
+        Begun::Failed => listed.fail(listing, &PROGRAM, name),
     }
 }
 
@@ -144,17 +123,18 @@ fn dump_open(input: i32, listed: Sink, listing: &mut Block, name: &[u8], options
     }
     let again = os::open_read(name);
     if again < 0 {
-        return fail(listed, listing, name);
+        return listed.fail(listing, &PROGRAM, name);
     }
     let after = dump_both(input, again, listed, listing, name, options);
     libc::close(again);
     after
 }
 
-// Lists the log of a file. The first line goes out before it is opened: where standard output is closed, the file would take its number.
+// Lists the log of a file. The first line goes out before it is opened: where standard output is closed, the file would take its number. Nothing waits before it
+// and it fits the block, so that only the flush can fail.
 fn dump_file(sink: Sink, listing: &mut Block, name: &[u8], options: Options) -> Sink {
     let titled = put_title(sink, listing, options.end, name);
-    let listed = flush_lines(titled, listing);
+    let listed = titled.flush_told(listing, &PROGRAM);
     if listed.failed {
         return listed;
     }
@@ -168,7 +148,7 @@ fn dump_file(sink: Sink, listing: &mut Block, name: &[u8], options: Options) -> 
     }
     let input = os::open_read(name);
     if input < 0 {
-        return fail(listed, listing, name);
+        return listed.fail(listing, &PROGRAM, name);
     }
     let after = dump_open(input, listed, listing, name, options);
     libc::close(input);

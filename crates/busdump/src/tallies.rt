@@ -1,4 +1,5 @@
 // The entries as they are given: each is counted, and its line put where it is asked for (02 a; docs/LINES.md). Refusals: none.
+use crate::complaints::PROGRAM;
 use crate::entries::put_message;
 use crate::entries::put_single;
 use crate::options::Options;
@@ -100,9 +101,11 @@ impl Tally {
         }
     }
 
-    // Puts the line that closes a log: so many records were read, and the next was refused, or there was none.
+    // Puts the line that closes a log: so many records were read, and the next was refused, or there was none. The lines that wait go out first, so that a
+    // failure of theirs is seen.
     pub(crate) fn close(self, listing: &mut Block, refusal: u8, records: u64) -> Sink {
-        let listed = self.listed;
+        let waiting = self.listed;
+        let listed = waiting.flush_told(listing, &PROGRAM);
         if refusal == Refusal::NONE.0 {
             return put_end(listed, listing, self.entries, records);
         }

@@ -2,22 +2,20 @@
 // and writes the kept records to CLEAN, a file that it makes. Thin over `salvage`: arguments, files, bytes out.
 // Refusals: none; any bytes are taken. What cannot be opened, read, made or written is said on standard error.
 mod complaints;
-mod names;
 mod outputs;
 mod runs;
 mod savings;
 
-use complaints::refuse;
+use complaints::PROGRAM;
 use complaints::write_usage;
 use libc::ENAMETOOLONG;
 use libc::STDERR_FILENO;
 use libc::STDOUT_FILENO;
-use names::is_dash;
-use names::is_same;
+use lines::NAME_BYTES;
+use lines::is_dash;
+use lines::is_same;
+use lines::remark;
 use runs::save;
-
-// the longest name that the system opens
-const NAME_BYTES: usize = 4095;
 
 // Says whether the first argument asks for help. One that is longer than "--help" gives a length of 0, and asks for none.
 fn asks_help() -> bool {
@@ -29,11 +27,15 @@ fn asks_help() -> bool {
 // Says whether the argument that was just asked for is a name. Where it is none, standard error says why.
 fn is_name(length: usize, which: &[u8]) -> bool {
     if os::errno() == ENAMETOOLONG {
-        refuse(which, b" is longer than a name can be: 4095 bytes");
+        remark(
+            &PROGRAM,
+            which,
+            b" is longer than a name can be: 4095 bytes",
+        );
         return false;
     }
     if length == 0 {
-        refuse(which, b" is empty: it must be the name of a file");
+        remark(&PROGRAM, which, b" is empty: it must be the name of a file");
         return false;
     }
     true
@@ -57,7 +59,8 @@ fn main() {
         return;
     }
     if is_dash(&clean[..to]) {
-        return refuse(
+        return remark(
+            &PROGRAM,
             b"CLEAN",
             b" cannot be -: the lines go to standard output, so the clean file needs a name",
         );

@@ -1,10 +1,7 @@
 // One run of the program: files opened, saved and closed (02 c). The clean file is made once the damaged one was read from, so that one
 // that cannot be read leaves none; it is never a file that exists. Refusals: none.
-use crate::complaints::complain;
-use crate::complaints::remark;
-use crate::names::is_dash;
+use crate::complaints::PROGRAM;
 use crate::outputs::put_end;
-use crate::outputs::put_named;
 use crate::outputs::put_run;
 use crate::savings::ROOM_BYTES;
 use crate::savings::Saving;
@@ -14,6 +11,9 @@ use libc::STDIN_FILENO;
 use libc::STDOUT_FILENO;
 use lines::Block;
 use lines::Sink;
+use lines::complain;
+use lines::is_dash;
+use lines::remark;
 use records::RECORD_BYTES;
 use records::VERSION;
 use salvage::Ended;
@@ -43,34 +43,9 @@ fn open_damaged(name: &[u8]) -> i32 {
     os::open_read(name)
 }
 
-// Writes the lines that wait. Where they failed before, that has been said.
-fn flush_lines(listed: Sink, listing: &Block) -> Sink {
-    if listed.failed {
-        return listed;
-    }
-    let after = listed.flush(listing);
-    if after.failed {
-        complain(b"standard output");
-    }
-    after
-}
-
-// Ends the lines by the name of the file that failed. Those that wait go out first, so that a failure of theirs is seen.
-fn end_in_error(listed: Sink, listing: &mut Block, name: &[u8]) {
-    let flushed = flush_lines(listed, listing);
-    let ended = put_named(flushed, listing, b"# error ", name);
-    flush_lines(ended, listing);
-}
-
-// Says what failed just now, and ends the lines by its name.
-fn fail(listed: Sink, listing: &mut Block, name: &[u8]) {
-    complain(name);
-    end_in_error(listed, listing, name);
-}
-
 // Says that what is in the clean file is not all. It stays: what it has up to its last whole record is good.
 fn say_cut(clean: &[u8]) {
-    remark(clean, b": not whole");
+    remark(&PROGRAM, clean, b": not whole");
 }
 
 // Says whether a file of so many bytes has the version and so many records.
@@ -128,22 +103,23 @@ impl Saving {
         let listed = self.listed;
         let after = put_run(listed, listing, run).flush(listing);
         if after.failed {
-            complain(b"standard output");
+            complain(&PROGRAM, b"standard output");
         }
         let sink = self.clean;
         match close_clean(sink, saved, totals.records) {
             Closed::Whole => {
                 let ended = put_end(after, listing, totals);
-                flush_lines(ended, listing);
+                ended.flush_told(listing, &PROGRAM);
                 return;
             }
             Closed::Short => remark(
+                &PROGRAM,
                 clean,
                 b": its size is not that of the records that were kept",
             ),
-            Closed::Failed => complain(clean),
+            Closed::Failed => complain(&PROGRAM, clean),
         }
-        end_in_error(after, listing, clean);
+        after.end_in_error(listing, &PROGRAM, clean);
         say_cut(clean);
     }
 
@@ -155,9 +131,9 @@ impl Saving {
                 return self.end_whole(totals, listing, saved, clean);
             }
         }
-        remark(damaged, b": not every byte was settled");
+        remark(&PROGRAM, damaged, b": not every byte was settled");
         let listed = self.listed;
-        end_in_error(listed, listing, damaged);
+        listed.end_in_error(listing, &PROGRAM, damaged);
         let sink = self.clean;
         sink.flush(saved);
         say_cut(clean);
@@ -170,9 +146,13 @@ impl Saving {
             Fault::None => {
                 return self.end_all(listing, saved, damaged, clean);
             }
-            Fault::Lines => complain(b"standard output"),
-            Fault::Clean => fail(listed, listing, clean),
-            Fault::Damaged => fail(listed, listing, damaged),
+            Fault::Lines => complain(&PROGRAM, b"standard output"),
+            Fault::Clean => {
+                listed.fail(listing, &PROGRAM, clean);
+            }
+            Fault::Damaged => {
+                listed.fail(listing, &PROGRAM, damaged);
+            }
         }
         let sink = self.clean;
         sink.flush(saved);
@@ -212,17 +192,20 @@ fn hold_errors() {
 fn save_listed(listed: Sink, listing: &mut Block, damaged: &[u8], clean: &[u8]) {
     let input = open_damaged(damaged);
     if input < 0 {
-        return fail(listed, listing, damaged);
+        listed.fail(listing, &PROGRAM, damaged);
+        return;
     }
     let mut chunk = io::large_buffer();
     let got = libc::read(input, &mut chunk);
     if got < 0 {
-        return fail(listed, listing, damaged);
+        listed.fail(listing, &PROGRAM, damaged);
+        return;
     }
     hold_errors();
     let output = os::create(clean);
     if output < 0 {
-        return fail(listed, listing, clean);
+        listed.fail(listing, &PROGRAM, clean);
+        return;
     }
     let first = Saving {
         got,
@@ -239,10 +222,10 @@ fn save_listed(listed: Sink, listing: &mut Block, damaged: &[u8], clean: &[u8]) 
 pub(crate) fn save(damaged: &[u8], clean: &[u8]) {
     let mut listing = io::large_buffer();
     let sink = Sink::to(STDOUT_FILENO);
-    let titled = put_named(sink, &mut listing, b"# bussave ", damaged);
+    let titled = sink.put_named(&mut listing, b"# bussave ", damaged);
     let listed = titled.flush(&listing);
     if listed.failed {
-        return complain(b"standard output");
+        return complain(&PROGRAM, b"standard output");
     }
     save_listed(listed, &mut listing, damaged, clean);
 }

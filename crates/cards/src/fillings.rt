@@ -1,7 +1,7 @@
 // The bytes of a line on their way into the byte buffer: bytes HEX.., bytes none.
 use crate::calls::is_named;
-use crate::numbers::NO_DIGIT;
-use crate::numbers::digit;
+use lines::NO_DIGIT;
+use lines::read_digit;
 
 // How long the buffer is with the bytes of a line at its end, or that these are no bytes or have no room.
 pub(crate) enum Filled {
@@ -25,7 +25,7 @@ impl Filling {
 
     // Takes a character: a digit, or a space between whole bytes.
     fn take(self, byte: u8, buffer: &mut [u8]) -> Filling {
-        let low = digit(byte);
+        let low = read_digit(byte);
         let high = self.high;
         if low == NO_DIGIT {
             if (byte == b' ') & (high == NO_DIGIT) {

@@ -2,9 +2,8 @@
 // number, or does not fit, is None.
 
 use lines::Number;
-
-// what `digit` gives of a byte that is no digit
-pub(crate) const NO_DIGIT: u8 = 16;
+use lines::read_decimal;
+use lines::read_hexadecimal;
 
 // "the receive or transmit mask" of a mask line
 pub(crate) const RECEIVE: u64 = 0;
@@ -16,45 +15,13 @@ pub(crate) const REST: u8 = b'*';
 
 const NOTHING: u8 = b' ';
 
-// Gives the value of a hexadecimal digit "in either case".
-pub(crate) fn digit(byte: u8) -> u8 {
-    match byte {
-        b'0'..=b'9' => byte - b'0',
-        b'A'..=b'F' => byte - b'A' + 10,
-        b'a'..=b'f' => byte - b'a' + 10,
-        _ => NO_DIGIT,
-    }
-}
-
-fn wide(digit: u8) -> u64 {
-    digit as u64
-}
-
 // Gives the decimal number of a text, where it is at most so much.
 fn decimal_of(text: &[u8], most: u64) -> Number {
-    let Number::Is(value) = lines::read_decimal(text) else {
+    let Number::Is(value) = read_decimal(text) else {
         return Number::None;
     };
     if value > most {
         return Number::None;
-    }
-    Number::Is(value)
-}
-
-// Gives the number that exactly so many hexadecimal digits spell.
-fn hexadecimal_of(text: &[u8], digits: usize) -> Number {
-    if text.len() != digits {
-        return Number::None;
-    }
-    let mut value: u64 = 0;
-    let mut i = 0;
-    while i < text.len() {
-        let next = digit(text[i]);
-        if next == NO_DIGIT {
-            return Number::None;
-        }
-        value = (value << 4) | wide(next);
-        i += 1;
     }
     Number::Is(value)
 }
@@ -107,8 +74,8 @@ pub(crate) fn number_of(text: &[u8], letter: u8) -> Number {
     match letter {
         NOTHING => nothing_of(text),
         REST => rest_of(text),
-        b'w' => hexadecimal_of(text, 4),
-        b'm' => hexadecimal_of(text, 8),
+        b'w' => read_hexadecimal(text, 4),
+        b'm' => read_hexadecimal(text, 8),
         b'r' => side_of(text),
         _ => decimal_of(text, most(letter)),
     }

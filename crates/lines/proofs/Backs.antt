@@ -1,16 +1,19 @@
--- A number's decimal text, read back: it has 1 to 20 bytes, each is a digit, and they spell the number. Assumes nothing.
-use mathlib.Core.Path.{_≡_, refl, _∙_}
+-- A number's decimal text, read back: it has 1 to 20 bytes, each is a digit, and they spell the number. A word's four digits, read back. Assumes nothing.
+use mathlib.Core.Path.{_≡_, refl, sym, ap, _∙_}
 use mathlib.Core.Bool.{Bool, true, false, cond, _&&_}
 use Prim.Native.Nat.{ℕ, zero, suc, _+_, _*_, _-_, _/_, _%_, _^_, _≤_, _<_}
 use native.Mathlib.Nat.{pow-suc}
 use native.Mathlib.Omega.{arith}
 use mathlib.Core.List.{List, [], _∷_, _++_}
-use lib.Dec.{ltb}
+use lib.Dec.{ltb, eqb}
 use lib.ListN.{length, length-append}
-use borrow.Author.Tests.{ltb-true, lt-ltb, le-leb}
+use borrow.Author.Tests.{ltb-true, lt-ltb, le-leb, eqb-true}
+use lib.Pow.{shr-shr}
+use Rattle.words.proofs.Truth.{passes, passed}
+use Rattle.lines.specs.declared.numbers.Number.the-variants.{Is}
 use Rattle.lines.specs.Sinks.{digitOf, decimalIn, decimalText}
-use Rattle.lines.specs.Numbers.{isDigit, areDigits, spelledAfter, numberAfter, numberRead}
-use Rattle.lines.specs.Theorems.{DecimalBack}
+use Rattle.lines.specs.Numbers.{isDigit, areDigits, spelledAfter, numberAfter, numberRead, digitValue, hexadecimalAfter, hexadecimalRead}
+use Rattle.lines.specs.Theorems.{DecimalBack, WordBack}
 
 -- ---- one digit more at the end
 
@@ -83,3 +86,35 @@ decimal-back n l =
       text-spelled 20 n (omega arith),
       lt-ltb n (2 ^ 64) l,
     )
+
+-- ---- the four digits of a word
+
+digit-back : (n : ℕ) → digitValue (digitOf (n % 16)) ≡ n % 16
+unfolding digitValue digitOf passes
+digit-back n =
+    eqb-true (digitValue (digitOf (n % 16))) (n % 16) (passed 16 (λ (i : ℕ). eqb (digitValue (digitOf i)) i) refl (n % 16) (omega arith))
+
+word-spelled : (n : ℕ) → n < 2 ^ 16 → (((0 * 16 + n / 2 ^ 12 % 16) * 16 + n / 2 ^ 8 % 16) * 16 + n / 2 ^ 4 % 16) * 16 + n % 16 ≡ n
+word-spelled n l =
+    let second : n / 2 ^ 8 ≡ n / 2 ^ 4 / 16 = sym (shr-shr n 4 4) in
+    let third : n / 2 ^ 12 ≡ n / 2 ^ 8 / 16 = sym (shr-shr n 8 4) in
+    let high : n / 2 ^ 12 % 16 ≡ n / 2 ^ 12 = omega arith in
+    let two : n / 2 ^ 12 * 16 + n / 2 ^ 8 % 16 ≡ n / 2 ^ 8 = omega (arith, third) in
+    let three : n / 2 ^ 8 * 16 + n / 2 ^ 4 % 16 ≡ n / 2 ^ 4 = omega (arith, second) in
+    omega arith
+
+pub word-back : WordBack
+unfolding hexadecimalRead hexadecimalAfter
+word-back word l =
+    let one : (n : ℕ) → ltb (n % 16) 16 ≡ true = λ n. lt-ltb (n % 16) 16 (omega arith) in
+    rw (
+      digit-back (word / 2 ^ 12),
+      one (word / 2 ^ 12),
+      digit-back (word / 2 ^ 8),
+      one (word / 2 ^ 8),
+      digit-back (word / 2 ^ 4),
+      one (word / 2 ^ 4),
+      digit-back word,
+      one word,
+    )
+    (ap Is (word-spelled word l))

@@ -2,4 +2,6 @@ pub mod Waits
 pub mod Texts
 pub mod Losses
 pub mod Readings
+pub mod Hexadecimals
+pub mod Namings
 pub mod Backs

@@ -88,6 +88,15 @@ module _ (at : ℕ) where
   pub byte-place-front : blockBytes ≤ at → 1 ≡ placeAfter at 1
   byte-place-front l = place-front at 1 false (sym (fits-above at 1 (omega arith))) 1 refl (omega arith) 0 refl (omega arith)
 
+-- ---- a text behind another
+
+pub then-place : (at count middle more r : ℕ) → middle ≡ placeAfter at count → r ≡ placeAfter middle more → r ≡ placeAfter (placeAfter at count) more
+then-place at count middle more r e q = rw (← e) q
+
+pub then-block : (block text more middle last : List ℕ) (at place : ℕ) → place ≡ placeAfter at (length text) → middle ≡ blockAfter block at text
+    → last ≡ blockAfter middle place more → last ≡ blockAfter (blockAfter block at text) (placeAfter at (length text)) more
+then-block block text more middle last at place e m q = rw (← e, ← m) q
+
 -- ---- how they come there
 
 pub stored : (block : List ℕ) (at byte : ℕ) → at < length block → set block at byte ≡ putAt block at (byte ∷ [])

@@ -1,10 +1,20 @@
 // What the programs write and read as text. The writer of their output, in blocks (01 Bench cards; 02 c): bytes wait in a block that the caller lends, and go
-// out where it is full. No byte is lost in silence; a write that fails is kept in mind, and nothing is written after it. The reader of decimal numbers. Meaning:
-// specs/Sinks.antt, specs/Numbers.antt. Refusals: none.
+// out where it is full. No byte is lost in silence; a write that fails is kept in mind, and nothing is written after it. The reader of decimal and hexadecimal numbers, the
+// names of files, and what is said on standard error. Meaning: specs/Sinks.antt, specs/Numbers.antt, specs/Names.antt. Refusals: none.
+mod complaints;
+mod names;
 mod numbers;
 mod sinks;
 
+pub use complaints::complain;
+pub use complaints::remark;
+pub use names::NAME_BYTES;
+pub use names::is_dash;
+pub use names::is_same;
+pub use numbers::NO_DIGIT;
 pub use numbers::Number;
 pub use numbers::read_decimal;
+pub use numbers::read_digit;
+pub use numbers::read_hexadecimal;
 pub use sinks::Block;
 pub use sinks::Sink;

@@ -5,6 +5,8 @@ ghost use mathlib.Core.List.{[], _∷_};
 ghost use Prim.Native.Nat.{_<_, _≤_, _+_, _%_};
 ghost use lib.ListN.{length, take};
 ghost use Rattle.lines.specs.Sinks.{blockBytes, fitsBehind, placeAfter, putAt, blockAfter, digitOf, wordText, decimalText};
+ghost use Rattle.lines.specs.Names.{placeAfterName, blockAfterName, placeAfterNamed, blockAfterNamed};
+use crate::names::shown;
 
 // The bytes that wait, from the front on.
 pub type Block = [u8; 65536];
@@ -142,6 +144,46 @@ impl Sink {
             digit(word),
         ];
         self.put_text(block, &digits)
+    }
+
+    // Gives the sink with a text more, and the number behind it, in decimal.
+    // Tables: block holds what was put where it waits, and is else as before; text is only read. Refusals: none; `failed` says whether a write has failed.
+    pub fn put_number(self, block: &mut Block, text: &[u8], number: u64) -> Sink
+        ensures place { λ r. ⌜ r .at ≡ placeAfter (placeAfter (self .at) (length (now (text .entry)))) (length (decimalText number)) ⌝ }
+        ensures file { λ r. ⌜ r .fd ≡ self .fd ⌝ }
+        ensures block { λ _. ⌜ now (block .exit) ≡ blockAfter (blockAfter (now (block .entry)) (self .at) (now (text .entry))) (placeAfter (self .at) (length (now (text .entry)))) (decimalText number) ⌝ }
+        ensures stays { λ r. ⌜ (self .failed ≡ true → r .failed ≡ true) ⌝ }
+    {
+        self.put_text(block, text).put_decimal(block, number)
+    }
+
+    // Gives the sink with a name more, each byte as it is shown.
+    // Tables: block holds what was put where it waits, and is else as before; name is only read. Refusals: none; `failed` says whether a write has failed.
+    pub fn put_name(self, block: &mut Block, name: &[u8]) -> Sink
+        ensures place { λ r. ⌜ r .at ≡ placeAfterName (self .at) (now (name .entry)) ⌝ }
+        ensures file { λ r. ⌜ r .fd ≡ self .fd ⌝ }
+        ensures block { λ _. ⌜ now (block .exit) ≡ blockAfterName (now (block .entry)) (self .at) (now (name .entry)) ⌝ }
+        ensures stays { λ r. ⌜ (self .failed ≡ true → r .failed ≡ true) ⌝ }
+    {
+        let mut after = self;
+        let mut i = 0;
+        while i < name.len() {
+            after = after.put(block, shown(name[i]));
+            i += 1;
+        }
+        after
+    }
+
+    // Gives the sink with a line more that ends in a name: "# error NAME".
+    // Tables: block holds what was put where it waits, and is else as before; begin and name are only read. Refusals: none; `failed` says whether a write has failed.
+    pub fn put_named(self, block: &mut Block, begin: &[u8], name: &[u8]) -> Sink
+        ensures place { λ r. ⌜ r .at ≡ placeAfterNamed (self .at) (now (begin .entry)) (now (name .entry)) ⌝ }
+        ensures file { λ r. ⌜ r .fd ≡ self .fd ⌝ }
+        ensures block { λ _. ⌜ now (block .exit) ≡ blockAfterNamed (now (block .entry)) (self .at) (now (begin .entry)) (now (name .entry)) ⌝ }
+        ensures stays { λ r. ⌜ (self .failed ≡ true → r .failed ≡ true) ⌝ }
+    {
+        let begun = self.put_text(block, begin);
+        begun.put_name(block, name).put(block, b'\n')
     }
 }
 

@@ -1,0 +1,74 @@
+// What goes to standard error, and the line that closes what failed (02 a, c). What is written there no contract can say. Meaning of the rest: specs/Sinks.antt,
+// specs/Names.antt. Refusals: none.
+ghost use mathlib.Core.Path.{_≡_};
+ghost use mathlib.Core.Bool.{true};
+ghost use Rattle.lines.specs.Names.{errorText, blockAfterNamed};
+use crate::sinks::Block;
+use crate::sinks::Sink;
+use libc::STDERR_FILENO;
+
+// Writes "PROGRAM: NAME" with no line end.
+fn begin_complaint(program: &[u8], name: &[u8]) {
+    let mut block = io::large_buffer();
+    Sink::to(STDERR_FILENO)
+        .put_text(&mut block, program)
+        .put_text(&mut block, b": ")
+        .put_name(&mut block, name)
+        .flush(&block);
+}
+
+// Says what failed just now, with the system's reason: "PROGRAM: NAME: REASON".
+// Tables: program and name are only read. Refusals: none.
+pub fn complain(program: &[u8], name: &[u8]) {
+    begin_complaint(program, name);
+    os::fail(b"");
+}
+
+// Says something of a file, as ": not whole": "PROGRAM: NAME: not whole".
+// Tables: program, name and what are only read. Refusals: none.
+pub fn remark(program: &[u8], name: &[u8], what: &[u8]) {
+    begin_complaint(program, name);
+    io::write_all(STDERR_FILENO, what);
+    io::write_all(STDERR_FILENO, b"\n");
+}
+
+impl Sink {
+    // Gives the sink with all that waited written, and says where that failed. What failed before has been said.
+    // Tables: block and program are only read. Refusals: none; `failed` says whether a write has failed.
+    pub fn flush_told(self, block: &Block, program: &[u8]) -> Sink
+        ensures place { λ r. ⌜ r .at ≡ 0 ⌝ }
+        ensures file { λ r. ⌜ r .fd ≡ self .fd ⌝ }
+        ensures stays { λ r. ⌜ (self .failed ≡ true → r .failed ≡ true) ⌝ }
+    {
+        let after = self.flush(block);
+        if after.failed & !self.failed {
+            complain(program, b"standard output");
+        }
+        after
+    }
+
+    // Ends the lines by the name of the file that failed: "# error NAME". Those that wait go out first, so that a failure of theirs is seen.
+    // Tables: block holds that line at its front, and is else as before; program and name are only read. Refusals: none; `failed` says whether a write has failed.
+    pub fn end_in_error(self, block: &mut Block, program: &[u8], name: &[u8]) -> Sink
+        ensures place { λ r. ⌜ r .at ≡ 0 ⌝ }
+        ensures file { λ r. ⌜ r .fd ≡ self .fd ⌝ }
+        ensures block { λ _. ⌜ now (block .exit) ≡ blockAfterNamed (now (block .entry)) 0 errorText (now (name .entry)) ⌝ }
+        ensures stays { λ r. ⌜ (self .failed ≡ true → r .failed ≡ true) ⌝ }
+    {
+        let flushed = self.flush_told(block, program);
+        let ended = flushed.put_named(block, b"# error ", name);
+        ended.flush_told(block, program)
+    }
+
+    // Says what failed just now, and ends the lines by its name.
+    // Tables: block holds that line at its front, and is else as before; program and name are only read. Refusals: none; `failed` says whether a write has failed.
+    pub fn fail(self, block: &mut Block, program: &[u8], name: &[u8]) -> Sink
+        ensures place { λ r. ⌜ r .at ≡ 0 ⌝ }
+        ensures file { λ r. ⌜ r .fd ≡ self .fd ⌝ }
+        ensures block { λ _. ⌜ now (block .exit) ≡ blockAfterNamed (now (block .entry)) 0 errorText (now (name .entry)) ⌝ }
+        ensures stays { λ r. ⌜ (self .failed ≡ true → r .failed ≡ true) ⌝ }
+    {
+        complain(program, name);
+        self.end_in_error(block, program, name)
+    }
+}
