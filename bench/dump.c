@@ -2,6 +2,7 @@
  * from the crates: dump FILE. It writes the same lines in constant memory: two walks over the file, one a bus, each giving the
  * entries of its bus in order, are merged by the place of an entry's first record. Exit status: 0 the log is written, also of a
  * refused file; 2 wrong usage, or a file that cannot be read. */
+#include "commands.h"
 #include "plain.h"
 
 #include <endian.h>
@@ -15,7 +16,6 @@
 
 #define BLOCK 65536 /* whole records: the version byte is read by itself */
 #define LINE_MOST 256
-#define BROADCAST 31
 #define PARITY_AT 180    /* a gap runs from "the middle of its parity bit" */
 #define SPACED_LEAST 195 /* "195 to 205 after the one before" */
 #define SPACED_MOST 205
@@ -32,40 +32,7 @@ typedef struct {
     bool valid;
 } record;
 
-/* ---- command words */
-
-static unsigned address_of(uint16_t word)
-{
-    return word >> 11;
-}
-
-static bool transmits(uint16_t command)
-{
-    return command >> 10 & 1;
-}
-
-static bool is_mode(uint16_t command)
-{
-    unsigned subaddress = command >> 5 & 31;
-    return subaddress == 0 || subaddress == 31;
-}
-
-static unsigned count_of(uint16_t command)
-{
-    return command & 31;
-}
-
-/* "Count 0 means 32." */
-static unsigned words_of(uint16_t command)
-{
-    unsigned count = count_of(command);
-    return count == 0 ? 32 : count;
-}
-
-static bool is_broadcast(uint16_t command)
-{
-    return address_of(command) == BROADCAST;
-}
+/* ---- mode codes */
 
 /* One bit a mode code. */
 #define MODES_TRANSMIT 0x000D01FFu      /* T/R 1: 0 to 8, 16, 18, 19 */

@@ -7,6 +7,8 @@
  * Exit status: 0 done; 1 something is wrong; 2 wrong usage, or a file that cannot be read; 3 a plan is to be proposed, which
  * this does not do. */
 #define _GNU_SOURCE /* memmem */
+#include "commands.h"
+
 #include <errno.h>
 #include <stdbool.h>
 #include <stdint.h>
@@ -16,36 +18,9 @@
 
 #define MESSAGES 64
 #define FRAMES 64
-#define BROADCAST 31
 #define PARTS 5 /* of a line that is right: message C1 C2 PERIOD FIRST */
 
-/* ---- command words */
-
-static unsigned address_of(uint16_t word)
-{
-    return word >> 11;
-}
-
-static bool transmits(uint16_t command)
-{
-    return command >> 10 & 1;
-}
-
-static bool is_mode(uint16_t command)
-{
-    unsigned subaddress = command >> 5 & 31;
-    return subaddress == 0 || subaddress == 31;
-}
-
-static unsigned count_of(uint16_t command)
-{
-    return command & 31;
-}
-
-static bool is_broadcast(uint16_t command)
-{
-    return address_of(command) == BROADCAST;
-}
+/* ---- which plans are possible */
 
 /* "Mode codes" of document 01: "All else is reserved." */
 static bool is_listed(unsigned code, bool transmit, bool broadcast)
@@ -110,20 +85,20 @@ static bool is_possible(const message *m)
     return m->command_count == 1 ? is_single(m->commands[0]) : is_pair(m->commands[0], m->commands[1]);
 }
 
-/* "n being 0 or 1 for mode codes": 16 to 21 have a data word. "Count 0 means 32." */
-static unsigned words_of(uint16_t command)
+/* "n being 0 or 1 for mode codes": 16 to 21 have a data word. */
+static unsigned data_words(uint16_t command)
 {
-    unsigned count = count_of(command);
+    unsigned code = count_of(command);
     if (is_mode(command))
-        return count >= 16;
-    return count == 0 ? 32 : count;
+        return 16 <= code && code <= 21;
+    return words_of(command);
 }
 
 /* "200(n+2)+100 for one terminal .. 200(n+4)+200 between two terminals; 200(n+1) broadcast; 200(n+3)+100 broadcast from a
  * terminal; plus 20 each" */
 static uint64_t load_of(const message *m)
 {
-    unsigned n = words_of(m->commands[0]);
+    unsigned n = data_words(m->commands[0]);
     if (m->command_count == 1)
         return (is_broadcast(m->commands[0]) ? 200 * (n + 1) : 200 * (n + 2) + 100) + 20;
     return (is_broadcast(m->commands[0]) ? 200 * (n + 3) + 100 : 200 * (n + 4) + 200) + 20;
