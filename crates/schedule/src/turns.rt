@@ -5,9 +5,10 @@ use crate::messages::Message;
 use crate::schedules::Frames;
 use crate::schedules::Schedule;
 
-// the number of frames, and of messages at most; also a frame, or a message, that there is none of: a first frame of 64 is that of a message not placed yet
+// the number of frames, and of messages at most; as the number of a message: none
 pub(crate) const PLACES: usize = 64;
 
+// as a first frame: the message is not placed yet, and comes in no frame; as a frame: none
 pub(crate) const NOT_PLACED: u64 = 64;
 
 // ticks: more than all messages together load a frame with
