@@ -1,5 +1,6 @@
--- Bounds of loads; lists of messages and frames, as the loops walk them; then what the check says, what a frame is loaded with, in which frames a message comes, and schedules with one message more.
+-- Bounds of loads, the data words of mode commands; lists of messages and frames, as the loops walk them; then what the check says, what a frame is loaded with, in which frames a message comes, and schedules with one message more.
 pub mod Bounds
+pub mod Modes
 pub mod Walks
 pub mod Fills
 pub mod Firsts

@@ -63,7 +63,7 @@ isRefused schedule = not (leb (schedule .count) messagesMost && areFit (messages
 
 -- ---- "Load of a message with n data words"
 
--- "n being 0 or 1 for mode codes": 1 for 16 to 21, which alone have a data word in the code table (that asks T/R too, and so does isPossible)
+-- "n being 0 or 1 for mode codes": 1 for 16 to 21, which alone have a data word in the code table (mode-words)
 unfoldable pub modeDataOf : ℕ → ℕ
 modeDataOf code = cond (leb 16 code && leb code 21) 1 0
 

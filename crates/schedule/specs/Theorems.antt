@@ -5,7 +5,12 @@ use mathlib.Core.Bool.{true, false, cond}
 use mathlib.Core.List.{List, [], _∷_, _++_, map, Perm}
 use lib.Dec.{eqb}
 use lib.ListN.{length, getD}
-use Rattle.schedule.specs.Messages.{messagesMost, messagesIn, withOf, isRefused, loadOf}
+use Rattle.words.specs.Words.{isMode}
+use Rattle.words.specs.Modes.{listingOf, isAllowed}
+use Rattle.words.specs.declared.modes.Listing.{Listing}
+use Rattle.words.specs.declared.modes.Listing.the-variants.{Reserved, Listed}
+use Rattle.words.specs.declared.modes.ModeWord.the-variants.{None, Sent, Received}
+use Rattle.schedule.specs.Messages.{messagesMost, messagesIn, withOf, isRefused, dataOf, loadOf}
 use Rattle.schedule.specs.Frames.{Placed, placedOf, comesIn, frameLoad, framesAll, checkOf}
 use Rattle.schedule.specs.declared.messages.Message.{Message}
 use Rattle.schedule.specs.declared.schedules.Schedule.{Schedule}
@@ -81,6 +86,19 @@ MoreRoom =
     → ((frame : ℕ) → frame < framesAll → getD capacities frame 0 ≤ getD wider frame 0)
     → checkOf schedule firsts capacities ≡ Accepted
     → checkOf schedule firsts wider ≡ Accepted
+
+-- ---- the load of a message
+
+-- one for a data word in the code table, "sent" or "received"
+abbrev pub wordIn : Listing → ℕ
+wordIn Reserved = 0
+wordIn (Listed broadcast None) = 0
+wordIn (Listed broadcast Sent) = 1
+wordIn (Listed broadcast Received) = 1
+
+-- "n being 0 or 1 for mode codes": for a mode command that the code table allows, n is what the table has under "data word": mode-words
+abbrev pub ModeWords : Type 0
+ModeWords = (word : ℕ) → isMode word ≡ true → isAllowed word ≡ true → dataOf word ≡ wordIn (listingOf word)
 
 -- ---- the load of a frame
 

@@ -17,7 +17,7 @@ use Rattle.words.specs.declared.modes.ModeWord.the-variants.{None, Sent,
 use Rattle.words.proofs.Truth.{and-both, passes, passed}
 
 -- what the test says of a place is said of its T/R bit and its code
-at-pair : (test : ℕ → ℕ → Bool) → passes 64 (λ (i : ℕ). test (i / 32) (i % 32)) ≡ true → (t c : ℕ) → t < 2 → c < 32 → test t c ≡ true
+pub at-pair : (test : ℕ → ℕ → Bool) → passes 64 (λ (i : ℕ). test (i / 32) (i % 32)) ≡ true → (t c : ℕ) → t < 2 → c < 32 → test t c ≡ true
 at-pair test all t c ht hc =
     let i = t * 32 + c in
     let high : i / 32 ≡ t = omega arith in
