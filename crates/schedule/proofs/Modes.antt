@@ -1,11 +1,11 @@
 -- The data words of mode commands are those of the code table: one test, computed over all T/R bits and codes. Assumes nothing.
-use mathlib.Core.Path.{_≡_, refl, sym, _∙_}
+use mathlib.Core.Path.{_≡_, refl, sym}
 use mathlib.Core.Bool.{Bool, true, false, _||_, true≢false}
 use Prim.Native.Nat.{ℕ, _/_, _%_}
 use native.Mathlib.Omega.{arith}
 use lib.Dec.{eqb}
 use borrow.Author.Tests.{eqb-true}
-use Rattle.words.specs.Words.{transmitOf, codeOf, isMode, isBroadcast}
+use Rattle.words.specs.Words.{transmitOf, codeOf, isBroadcast}
 use Rattle.words.specs.Modes.{rows, found, listingOf, allows, isAllowed}
 use Rattle.words.specs.declared.modes.Listing.{Listing}
 use Rattle.words.specs.declared.modes.Listing.the-variants.{Reserved, Listed}

@@ -122,10 +122,10 @@ impl Schedule {
         ensures count { λ r. ⌜ r ≡ length (messagesIn self) ⌝ }
         ensures few { λ r. ⌜ r ≤ messagesMost ⌝ }
     {
-        if self.count < MESSAGES_MOST {
-            return self.count as usize;
+        if self.count > MESSAGES_MOST {
+            return MESSAGES_MOST as usize;
         }
-        MESSAGES_MOST as usize
+        self.count as usize
     }
 
     // Says whether every message can be scheduled.
@@ -157,12 +157,12 @@ impl Schedule {
         ensures each { λ _. ⌜ length (placedOf (messagesIn self) (now (firsts .entry))) ≡ length (messagesIn self) ⌝ }
     {
         let held = self.held();
-        let mut i = 0;
-        while i < held {
-            if !self.messages[i].is_below(firsts[i]) {
-                return i as u64;
+        let mut place = 0;
+        while place < held {
+            if !self.messages[place].is_below(firsts[place]) {
+                return place as u64;
             }
-            i += 1;
+            place += 1;
         }
         held as u64
     }

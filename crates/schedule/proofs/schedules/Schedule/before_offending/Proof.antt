@@ -13,10 +13,10 @@ use Rattle.schedule.proofs.schedules.Schedule.before_offending.Statemen
 use Rattle.schedule.proofs.schedules.Schedule.before_offending.Tie as tie
 
 abbrev Inv-loop : tie.InvT-loop
-Inv-loop firsts self held i₀ i = (i ≤ held) × (held ≤ 64) × (length firsts ≡ 64) × (held ≡ length (messagesIn self)) × (i + beforeOffending (drop i (placedOf (messagesIn self) firsts)) ≡ beforeOffending (placedOf (messagesIn self) firsts))
+Inv-loop firsts self held place₀ place = (place ≤ held) × (held ≤ 64) × (length firsts ≡ 64) × (held ≡ length (messagesIn self)) × (place + beforeOffending (drop place (placedOf (messagesIn self) firsts)) ≡ beforeOffending (placedOf (messagesIn self) firsts))
 
 abbrev μ-loop : tie.MeasureT-loop
-μ-loop firsts self held i₀ i = held - i
+μ-loop firsts self held place₀ place = held - place
 
 held-requires : tie.Need-held-requires Inv-loop μ-loop
 held-requires c κs = search needs
@@ -43,13 +43,13 @@ returns : tie.Need-returns Inv-loop μ-loop
 returns c =
     let l = c .before .before .before .before .before .loop in
     let a = c .before .before .before .before .before .before .before .before .args in
-    let inside : l .i < length (messagesIn (a .t1)) = omega (arith, l .inv, c .before .before .before .before .loop-test .taken) in
+    let inside : l .place < length (messagesIn (a .t1)) = omega (arith, l .inv, c .before .before .before .before .loop-test .taken) in
     let few : length (messagesIn (a .t1)) ≤ length (now (a .firsts)) = omega (arith, l .inv) in
     let above = sym (c .before .is-below .ensures) ∙ not-true _ (c .if1 .taken) in
-    (offending-here (a .t1) (l .i) _ inside (now (a .firsts)) few _ (l .inv .4) above, length-placed (messagesIn (a .t1)) (now (a .firsts)) few)
+    (offending-here (a .t1) (l .place) _ inside (now (a .firsts)) few _ (l .inv .4) above, length-placed (messagesIn (a .t1)) (now (a .firsts)) few)
 
-add-i : tie.Need-add-i Inv-loop μ-loop
-add-i c = let inv = c .before .before .before .before .before .loop .inv in omega arith
+add-place : tie.Need-add-place Inv-loop μ-loop
+add-place c = let inv = c .before .before .before .before .before .loop .inv in omega arith
 
 loop-less : tie.Need-loop-less Inv-loop μ-loop
 loop-less c = omega arith
@@ -58,17 +58,17 @@ loop-again : tie.Need-loop-again Inv-loop μ-loop
 loop-again c =
     let l = c .before .before .before .before .before .loop in
     let a = c .before .before .before .before .before .before .before .before .args in
-    let inside : l .i < length (messagesIn (a .t1)) = omega (arith, l .inv, c .before .before .before .before .loop-test .taken) in
+    let inside : l .place < length (messagesIn (a .t1)) = omega (arith, l .inv, c .before .before .before .before .loop-test .taken) in
     let below = sym (c .before .is-below .ensures) ∙ not-false _ (c .if1 .left) in
-    (omega arith, l .inv .1, l .inv .2, l .inv .3, offending-on (a .t1) (l .i) _ inside (now (a .firsts)) (omega (arith, l .inv)) _ (l .inv .4) below)
+    (omega arith, l .inv .1, l .inv .2, l .inv .3, offending-on (a .t1) (l .place) _ inside (now (a .firsts)) (omega (arith, l .inv)) _ (l .inv .4) below)
 
 returns-2 : tie.Need-returns-2 Inv-loop μ-loop
 returns-2 c =
     let l = c .before .loop in
     let a = c .before .before .before .before .args in
-    let last : l .i ≡ c .before .before .held .result = omega (arith, l .inv, c .loop-test .left) in
+    let last : l .place ≡ c .before .before .held .result = omega (arith, l .inv, c .loop-test .left) in
     let few : length (messagesIn (a .t1)) ≤ length (now (a .firsts)) = omega (arith, l .inv) in
-    (sym last ∙ offending-none (a .t1) (now (a .firsts)) (l .i) (omega (arith, l .inv, last)) few _ (l .inv .4), length-placed (messagesIn (a .t1)) (now (a .firsts)) few)
+    (sym last ∙ offending-none (a .t1) (now (a .firsts)) (l .place) (omega (arith, l .inv, last)) few _ (l .inv .4), length-placed (messagesIn (a .t1)) (now (a .firsts)) few)
 
 pub before-offending-spec : {M : Type 1} → statement M
 before-offending-spec =
@@ -84,7 +84,7 @@ before-offending-spec =
     shared-slice-read-is-below
     is-below-requires
     returns
-    add-i
+    add-place
     loop-less
     loop-again
     returns-2)

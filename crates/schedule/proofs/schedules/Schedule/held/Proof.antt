@@ -11,13 +11,13 @@ returns : tie.Need-returns
 returns c =
     let self = c .before .before .args .self in
     let room : length (self .messages) ≡ 64 = as-many _ (self .messages) 64 (c .before .before .good .0 .1 .1 .1 .0 .1 .0 .1) in
-    (sym (length-take-le (self .count) (self .messages) (omega arith)), omega arith)
+    (rw (take-all (self .count) (self .messages) (omega arith)) (sym room), omega arith)
 
 returns-2 : tie.Need-returns-2
 returns-2 c =
     let self = c .before .before .args .self in
     let room : length (self .messages) ≡ 64 = as-many _ (self .messages) 64 (c .before .before .good .0 .1 .1 .1 .0 .1 .0 .1) in
-    (rw (take-all (self .count) (self .messages) (omega arith)) (sym room), omega arith)
+    (sym (length-take-le (self .count) (self .messages) (omega arith)), omega arith)
 
 pub held-spec : {M : Type 1} → statement M
 held-spec = tie.close (tie.spec returns returns-2)

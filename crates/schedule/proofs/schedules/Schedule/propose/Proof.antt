@@ -2,6 +2,7 @@
 use mathlib.Core.Path.{refl, sym, _∙_}
 use Rattle.schedule.specs.Frames.{checkOf}
 use borrow.Author.Needs.{needs}
+use Rattle.schedule.proofs.Proposals.{given, kept}
 use Rattle.schedule.proofs.schedules.Schedule.propose.Statement.{statement}
 use Rattle.schedule.proofs.schedules.Schedule.propose.Tie as tie
 
@@ -22,10 +23,10 @@ enum-told : tie.Need-enum-told
 enum-told c = search needs
 
 returns-2 : tie.Need-returns-2
-returns-2 c = (sym (c .before .before .before .before .before .before .is-refused .ensures) ∙ c .before .before .before .before .before .if1 .left, refl)
+returns-2 c = kept _ _ _ (c .before .before .before .before .before .before .is-refused .ensures) (c .before .before .before .before .before .if1 .left)
 
 returns-3 : tie.Need-returns-3
-returns-3 c = sym (c .before .before .check .ensures) ∙ c .enum-told .given .1
+returns-3 c = search (given, needs)
 
 pub propose-spec : {M : Type 1} → statement M
 propose-spec =
