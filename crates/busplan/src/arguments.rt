@@ -1,10 +1,8 @@
 // What the arguments ask (docs/LINES.md, busplan). Refusals: none; a wrong argument is said on standard error, and then nothing else is done.
-use crate::complaints::refuse;
+use crate::complaints::PROGRAM;
 use libc::ENAMETOOLONG;
 use lines::is_same;
-
-// the longest name that the system opens
-pub(crate) const NAME_BYTES: usize = 4095;
+use lines::remark;
 
 // What a call asks for: the usage, or the plan that an argument names.
 pub(crate) enum Call {
@@ -51,15 +49,27 @@ fn is_option(text: &[u8]) -> bool {
 // Says whether the argument that was just asked for is a name. Where it is none, standard error says why.
 pub(crate) fn is_name(place: usize, text: &[u8]) -> bool {
     if os::errno() == ENAMETOOLONG {
-        refuse(b"FILE", b" is longer than a name can be: 4095 bytes");
+        remark(
+            &PROGRAM,
+            b"FILE",
+            b" is longer than a name can be: 4095 bytes",
+        );
         return false;
     }
     if text.len() == 0 {
-        refuse(b"FILE", b" is empty: it must be the name of a file");
+        remark(
+            &PROGRAM,
+            b"FILE",
+            b" is empty: it must be the name of a file",
+        );
         return false;
     }
     if (place == 1) & is_option(text) {
-        refuse(text, b" is no option; a file of that name goes behind --");
+        remark(
+            &PROGRAM,
+            text,
+            b" is no option; a file of that name goes behind --",
+        );
         return false;
     }
     true

@@ -1,7 +1,9 @@
-// What goes to standard error, and the usage. Refusals: none.
+// The program's name, with which all begins that it says on standard error, what is wrong with a line, and the usage. Refusals: none.
 use crate::entries::Fault;
 use libc::STDERR_FILENO;
 use lines::Sink;
+
+pub(crate) const PROGRAM: [u8; 7] = *b"busplan";
 
 // Writes what the program does and how it is called.
 pub(crate) fn write_usage(fd: i32) {
@@ -36,45 +38,25 @@ pub(crate) fn write_usage(fd: i32) {
     io::write_all(fd, b"example: busplan season.plan | tail -n 1\n");
 }
 
-// Says what is wrong with an argument.
-pub(crate) fn refuse(which: &[u8], why: &[u8]) {
-    let mut block = io::large_buffer();
-    Sink::to(STDERR_FILENO)
-        .put_text(&mut block, b"busplan: ")
-        .put_name(&mut block, which)
-        .put_text(&mut block, why)
-        .put(&mut block, b'\n')
-        .flush(&block);
+// Writes some text to standard error.
+fn say(text: &[u8]) {
+    io::write_all(STDERR_FILENO, text);
 }
 
 // Writes what is wrong with a line.
-fn write_fault(fault: Fault) -> bool {
+fn write_fault(fault: Fault) {
     match fault {
-        Fault::None => true,
-        Fault::Unknown => io::write_all(
-            STDERR_FILENO,
-            b": it begins neither with capacity nor with message\n",
+        Fault::None => {}
+        Fault::Unknown => say(b": it begins neither with capacity nor with message\n"),
+        Fault::NoSign => say(
+            b": it has a control byte; parts stand apart by spaces alone, no tab and no carriage return\n",
         ),
-        Fault::NoSign => io::write_all(
-            STDERR_FILENO,
-            b": a byte that is no sign; only spaces stand between parts, so no tab and no carriage return\n",
-        ),
-        Fault::TooLong => io::write_all(STDERR_FILENO, b": it is longer than any line of a plan\n"),
-        Fault::CapacityParts => {
-            io::write_all(STDERR_FILENO, b": capacity wants TICKS, or FRAME TICKS\n")
-        }
-        Fault::MessageParts => {
-            io::write_all(STDERR_FILENO, b": message wants C1 [C2] PERIOD [FIRST]\n")
-        }
-        Fault::Command => io::write_all(
-            STDERR_FILENO,
-            b": a command word has four hexadecimal digits\n",
-        ),
-        Fault::Number => io::write_all(
-            STDERR_FILENO,
-            b": a number has 1 to 20 decimal digits and is below 2^64\n",
-        ),
-        Fault::Frame => io::write_all(STDERR_FILENO, b": a frame is 0 to 63\n"),
+        Fault::TooLong => say(b": it is longer than any line of a plan\n"),
+        Fault::CapacityParts => say(b": capacity wants TICKS, or FRAME TICKS\n"),
+        Fault::MessageParts => say(b": message wants C1 [C2] PERIOD [FIRST]\n"),
+        Fault::Command => say(b": a command word has four hexadecimal digits\n"),
+        Fault::Number => say(b": a number has 1 to 20 decimal digits and is below 2^64\n"),
+        Fault::Frame => say(b": a frame is 0 to 63\n"),
     }
 }
 
@@ -82,7 +64,8 @@ fn write_fault(fault: Fault) -> bool {
 pub(crate) fn complain_of_line(name: &[u8], number: u64, fault: Fault) {
     let mut block = io::large_buffer();
     Sink::to(STDERR_FILENO)
-        .put_text(&mut block, b"busplan: ")
+        .put_text(&mut block, &PROGRAM)
+        .put_text(&mut block, b": ")
         .put_name(&mut block, name)
         .put_number(&mut block, b": line ", number)
         .flush(&block);

@@ -1,9 +1,9 @@
 // What a line of a plan says (docs/LINES.md, busplan). Refusals: none; a period or a command word that 02 j refuses is read as any other.
 use crate::gatherings::Gathering;
-use crate::parts::between;
 use crate::parts::count_parts;
 use crate::parts::part;
 use lines::Number;
+use lines::between;
 use lines::is_same;
 use lines::read_decimal;
 use lines::read_hexadecimal;
@@ -152,7 +152,7 @@ fn entry_of(line: &[u8]) -> Entry {
 }
 
 impl Gathering {
-    // Gives what the line says, once it has ended.
+    // Gives what the line says, once it has ended or is known to be bad.
     pub(crate) fn entry(self) -> Entry {
         if self.signless {
             return Entry::Bad(Fault::NoSign);

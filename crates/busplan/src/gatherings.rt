@@ -14,7 +14,7 @@ pub(crate) struct Gathering {
     spaced: bool,
     // a # came: what follows is comment
     remark: bool,
-    // a byte came that is no sign
+    // a control byte came
     pub(crate) signless: bool,
     // it does not fit, so it is no line of a plan
     pub(crate) over: bool,
@@ -38,6 +38,11 @@ impl Gathering {
     // Gives the next line before its first byte.
     pub(crate) fn next(self) -> Gathering {
         Gathering::start(wrapping_add_u64(self.number, 1))
+    }
+
+    // Says whether it is no line of a plan, whatever comes behind.
+    pub(crate) fn is_bad(self) -> bool {
+        self.signless | self.over
     }
 
     // Keeps a byte at the end, where there is room.

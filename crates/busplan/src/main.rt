@@ -11,12 +11,12 @@ mod readers;
 mod runs;
 
 use arguments::Call;
-use arguments::NAME_BYTES;
 use arguments::call_of;
 use arguments::is_name;
 use complaints::write_usage;
 use libc::STDERR_FILENO;
 use libc::STDOUT_FILENO;
+use lines::NAME_BYTES;
 use runs::plan;
 
 // Checks or proposes the schedule of the file that an argument names.

@@ -1,5 +1,6 @@
 // The lines that the program writes (02 j; docs/LINES.md). Each function says whether standard output took them; where it did not, standard
 // error has said why. Refusals: none.
+use crate::complaints::PROGRAM;
 use libc::STDOUT_FILENO;
 use lines::Block;
 use lines::Sink;
@@ -11,7 +12,7 @@ use schedule::Schedule;
 fn finish(listed: Sink, block: &Block) -> bool {
     let after = listed.flush(block);
     if after.failed {
-        complain(b"busplan", b"standard output");
+        complain(&PROGRAM, b"standard output");
     }
     !after.failed
 }

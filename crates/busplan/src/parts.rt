@@ -1,15 +1,7 @@
 // The parts of a line, which stand apart by one space each, since a line is gathered so. Refusals: none.
+use lines::between;
+use lines::part_end;
 use std::num::wrapping_add_usize;
-
-// Gives the bytes from a start to an end, none where these are no places of the text.
-pub(crate) fn between(text: &[u8], start: usize, end: usize) -> &[u8] {
-    if start <= end {
-        if end <= text.len() {
-            return &text[start..end];
-        }
-    }
-    &text[..0]
-}
 
 // Gives how many parts a line has.
 pub(crate) fn count_parts(line: &[u8]) -> usize {
@@ -41,18 +33,6 @@ fn part_start(line: &[u8], before: usize) -> usize {
         i += 1;
     }
     i
-}
-
-// Gives where a part ends that begins at a start: at the next space, or with the line.
-fn part_end(line: &[u8], start: usize) -> usize {
-    let mut end = start;
-    while end < line.len() {
-        if line[end] == b' ' {
-            return end;
-        }
-        end += 1;
-    }
-    line.len()
 }
 
 // Gives the part that has so many before it, no bytes where there is none.

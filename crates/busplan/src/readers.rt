@@ -10,7 +10,8 @@ pub(crate) struct Reading {
     pub(crate) failed: bool,
 }
 
-// Takes the lines of a chunk. The first bad line ends the reading; its number is then that of the gathering.
+// Takes the lines of a chunk. The first bad line ends the reading, as soon as it is known to be one: it need not end. Its number is then that of
+// the gathering.
 fn take_chunk(reading: Reading, chunk: &[u8]) -> Reading {
     let mut draft = reading.draft;
     let mut gathering = reading.gathering;
@@ -25,6 +26,9 @@ fn take_chunk(reading: Reading, chunk: &[u8]) -> Reading {
             gathering = gathering.next();
         } else {
             gathering = gathering.take(byte);
+            if gathering.is_bad() {
+                return Reading::on(draft.take(gathering.entry()), gathering, false);
+            }
         }
         i += 1;
     }

@@ -1,5 +1,6 @@
 // One run of the program: the plan read, checked or proposed, and its lines written (02 j). The file is opened to read alone, so that one which
 // gets the number of a closed standard error takes none of what is said. Refusals: 15, as the closing line says it.
+use crate::complaints::PROGRAM;
 use crate::complaints::complain_of_line;
 use crate::drafts::Draft;
 use crate::outputs::write_line;
@@ -10,7 +11,7 @@ use crate::readers::Reading;
 use crate::readers::read_plan;
 use libc::STDIN_FILENO;
 use lines::complain;
-use lines::is_same;
+use lines::is_dash;
 use schedule::Frames;
 use schedule::Outcome;
 use schedule::Proposal;
@@ -19,7 +20,7 @@ use words::Refusal;
 
 // Opens a plan, "-" being standard input. A negative answer: it cannot be opened.
 fn open_plan(name: &[u8]) -> i32 {
-    if is_same(name, b"-") {
+    if is_dash(name) {
         return STDIN_FILENO;
     }
     os::open_read(name)
@@ -27,7 +28,7 @@ fn open_plan(name: &[u8]) -> i32 {
 
 // Says what failed just now, and ends the lines by the name of the file.
 fn fail(name: &[u8]) {
-    complain(b"busplan", name);
+    complain(&PROGRAM, name);
     write_named(b"# error ", name);
 }
 

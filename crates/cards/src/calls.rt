@@ -1,9 +1,9 @@
 // The calls: a line is held against the forms of bench-script.md, and is the call of the first that it has.
 use crate::numbers::number_of;
-use crate::parts::between;
 use crate::parts::next_start;
 use crate::parts::part_end;
 use lines::Number;
+use lines::between;
 
 pub(crate) enum Name {
     Word,

@@ -1,16 +1,6 @@
 // The parts of a line: "Words on a line are separated by spaces", here by one each, since a line is gathered so.
 use crate::numbers::REST;
 
-// Gives the bytes from a start to an end, none where these are no places of the text.
-pub(crate) fn between(text: &[u8], start: usize, end: usize) -> &[u8] {
-    if start <= end {
-        if end <= text.len() {
-            return &text[start..end];
-        }
-    }
-    &text[..0]
-}
-
 // Gives where the part begins that follows one that ends at a place; where none does, it is past the line.
 pub(crate) fn next_start(line: &[u8], end: usize) -> usize {
     if end < line.len() {
@@ -25,14 +15,7 @@ pub(crate) fn part_end(line: &[u8], start: usize, letter: u8) -> usize {
     if letter == REST {
         return line.len();
     }
-    let mut end = start;
-    while end < line.len() {
-        if line[end] == b' ' {
-            return end;
-        }
-        end += 1;
-    }
-    line.len()
+    lines::part_end(line, start)
 }
 
 // Gives the last so many bytes of a line, none where it has fewer.

@@ -8,7 +8,6 @@ use crate::events::record_of;
 use crate::gatherings::Gathering;
 use crate::numbers::mask;
 use crate::numbers::word;
-use crate::parts::between;
 use crate::parts::last;
 use crate::replies::Reply;
 use crate::replies::put_reply;
@@ -17,6 +16,7 @@ use crate::verdicts::plan_of;
 use libc::STDOUT_FILENO;
 use lines::Block;
 use lines::Sink;
+use lines::between;
 use terminal::Event;
 use words::Moment;
 

@@ -33,7 +33,8 @@ pub fn remark(program: &[u8], name: &[u8], what: &[u8]) {
 }
 
 impl Sink {
-    // Gives the sink with all that waited written, and says where that failed. What failed before has been said.
+    // Gives the sink with all that waited written, and says a failure of this flush, as one of standard output. Who puts lines must have flushed, or looked at
+    // `failed`, before: a failure of a put is not said here.
     // Tables: block and program are only read. Refusals: none; `failed` says whether a write has failed.
     pub fn flush_told(self, block: &Block, program: &[u8]) -> Sink
         ensures place { λ r. ⌜ r .at ≡ 0 ⌝ }
@@ -48,7 +49,7 @@ impl Sink {
     }
 
     // Ends the lines by the name of the file that failed: "# error NAME". Those that wait go out first, so that a failure of theirs is seen.
-    // Tables: block holds that line at its front, and is else as before; program and name are only read. Refusals: none; `failed` says whether a write has failed.
+    // Tables: block holds that line where it waits, from the front on; program and name are only read. Refusals: none; `failed` says whether a write has failed.
     pub fn end_in_error(self, block: &mut Block, program: &[u8], name: &[u8]) -> Sink
         ensures place { λ r. ⌜ r .at ≡ 0 ⌝ }
         ensures file { λ r. ⌜ r .fd ≡ self .fd ⌝ }
@@ -61,7 +62,7 @@ impl Sink {
     }
 
     // Says what failed just now, and ends the lines by its name.
-    // Tables: block holds that line at its front, and is else as before; program and name are only read. Refusals: none; `failed` says whether a write has failed.
+    // Tables: block holds that line where it waits, from the front on; program and name are only read. Refusals: none; `failed` says whether a write has failed.
     pub fn fail(self, block: &mut Block, program: &[u8], name: &[u8]) -> Sink
         ensures place { λ r. ⌜ r .at ≡ 0 ⌝ }
         ensures file { λ r. ⌜ r .fd ≡ self .fd ⌝ }

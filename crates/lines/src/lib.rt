@@ -1,9 +1,10 @@
 // What the programs write and read as text. The writer of their output, in blocks (01 Bench cards; 02 c): bytes wait in a block that the caller lends, and go
 // out where it is full. No byte is lost in silence; a write that fails is kept in mind, and nothing is written after it. The reader of decimal and hexadecimal numbers, the
-// names of files, and what is said on standard error. Meaning: specs/Sinks.antt, specs/Numbers.antt, specs/Names.antt. Refusals: none.
+// parts of a line, the names of files, and what is said on standard error. Meaning: specs/Sinks.antt, specs/Numbers.antt, specs/Parts.antt, specs/Names.antt. Refusals: none.
 mod complaints;
 mod names;
 mod numbers;
+mod parts;
 mod sinks;
 
 pub use complaints::complain;
@@ -16,5 +17,7 @@ pub use numbers::Number;
 pub use numbers::read_decimal;
 pub use numbers::read_digit;
 pub use numbers::read_hexadecimal;
+pub use parts::between;
+pub use parts::part_end;
 pub use sinks::Block;
 pub use sinks::Sink;

@@ -40,6 +40,21 @@ next-requires c κs = tt
 take-requires-2 : tie.Need-take-requires-2 Inv-loop μ-loop
 take-requires-2 c κs = tt
 
+is-bad-requires-2 : tie.Need-is-bad-requires-2 Inv-loop μ-loop
+is-bad-requires-2 c κs = tt
+
+entry-requires-2 : tie.Need-entry-requires-2 Inv-loop μ-loop
+entry-requires-2 c κs = tt
+
+take-requires-3 : tie.Need-take-requires-3 Inv-loop μ-loop
+take-requires-3 c κs = tt
+
+on-requires-2 : tie.Need-on-requires-2 Inv-loop μ-loop
+on-requires-2 c κs = tt
+
+returns-2 : tie.Need-returns-2 Inv-loop μ-loop
+returns-2 c = tt
+
 add-i : tie.Need-add-i Inv-loop μ-loop
 add-i c = search needs
 
@@ -49,11 +64,11 @@ loop-less c = search needs
 loop-again : tie.Need-loop-again Inv-loop μ-loop
 loop-again c = tt
 
-on-requires-2 : tie.Need-on-requires-2 Inv-loop μ-loop
-on-requires-2 c κs = tt
+on-requires-3 : tie.Need-on-requires-3 Inv-loop μ-loop
+on-requires-3 c κs = tt
 
-returns-2 : tie.Need-returns-2 Inv-loop μ-loop
-returns-2 c = tt
+returns-3 : tie.Need-returns-3 Inv-loop μ-loop
+returns-3 c = tt
 
 pub take-chunk-spec : {M : Type 1} → statement M
 take-chunk-spec =
@@ -70,8 +85,13 @@ take-chunk-spec =
     returns
     next-requires
     take-requires-2
+    is-bad-requires-2
+    entry-requires-2
+    take-requires-3
+    on-requires-2
+    returns-2
     add-i
     loop-less
     loop-again
-    on-requires-2
-    returns-2)
+    on-requires-3
+    returns-3)
