@@ -1,6 +1,7 @@
 /* What busplan does but for its planner, in plain C, written from request j of document 02, its readings and the form of the
  * lines alone:
- *     plan FILE                     the lines of busplan, where each message has its first frame or the file is refused or wrong
+ *     plan FILE                     by hand: the lines of busplan, where each message has its first frame or the file is refused
+ *                                   or wrong
  *     plan --verify FILE LINES ..   whether what busplan printed for a file is right, a line for each such pair: `given` where
  *                                   the planner is not asked and all is as here; `found` where the proposal is whole and the
  *                                   check accepts it; `none` where busplan found none; else `wrong LINE`, the first to blame

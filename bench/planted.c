@@ -1,5 +1,5 @@
 /* Schedules that are known to fit, in the form that busplan reads, the same for the same seed:
- *     planted SEED KIND PERCENT FORM                   one, to standard output
+ *     planted SEED KIND PERCENT FORM                   by hand: one, to standard output
  *     planted SEED KIND PERCENT FORM LAST FOLDER       those of all seeds up to LAST, each in a file FOLDER/SEED.plan
  * Messages, periods and first frames are drawn, and the capacity of every frame is so many hundredths, rounded down, of the
  * load of the fullest one. Forms: bare, without the first frames, for the planner to propose; first, with them; odd, with them,

@@ -1,4 +1,4 @@
--- Names of files and other arguments: whether one is a wanted text, and what waits in a sink after one was put (02 a, c; the form is the house's). Assumes nothing.
+-- Names of files and other arguments: whether one is a wanted text, and what waits in a sink after one was put (02 a, c, j; the form is the house's). Assumes nothing.
 use Prim.Native.Nat.{ℕ}
 use mathlib.Core.Bool.{Bool, true, false, cond, _&&_, _||_}
 use mathlib.Core.List.{List, [], _∷_, _++_}

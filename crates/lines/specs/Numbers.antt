@@ -1,4 +1,4 @@
--- The number that a text spells in decimal, and in hexadecimal (01 Bench cards). Assumes nothing.
+-- The number that a text spells in decimal, and in hexadecimal (01 Bench cards; 02 j). Assumes nothing.
 use Prim.Native.Nat.{ℕ, _+_, _*_, _-_, _^_}
 use mathlib.Core.Bool.{Bool, true, cond, _&&_}
 use mathlib.Core.List.{List, [], _∷_}

@@ -1,4 +1,4 @@
-// What goes to standard error, and the line that closes what failed (02 a, c). What is written there no contract can say. Meaning of the rest: specs/Sinks.antt,
+// What goes to standard error, and the line that closes what failed (02 a, c, j). What is written there no contract can say. Meaning of the rest: specs/Sinks.antt,
 // specs/Names.antt. Refusals: none.
 ghost use mathlib.Core.Path.{_≡_};
 ghost use mathlib.Core.Bool.{true};

@@ -1,4 +1,4 @@
-// Names of files and other arguments, as they were given and as they are shown (02 a, c). Any bytes are taken. Meaning: specs/Names.antt. Refusals: none.
+// Names of files and other arguments, as they were given and as they are shown (02 a, c, j). Any bytes are taken. Meaning: specs/Names.antt. Refusals: none.
 ghost use mathlib.Core.Path.{_≡_};
 ghost use Rattle.lines.specs.Names.{sameText, dashText, shownOf};
 

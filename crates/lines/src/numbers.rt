@@ -1,4 +1,4 @@
-// Numbers in decimal and hexadecimal, read from a text: those of a bench script (01 Bench cards) and of a program's arguments. Any bytes are taken. Meaning: specs/Numbers.antt.
+// Numbers in decimal and hexadecimal, read from a text: those of a bench script (01 Bench cards), of a plan (02 j) and of a program's arguments. Any bytes are taken. Meaning: specs/Numbers.antt.
 // Refusals: none; a text that spells no number is None.
 ghost use mathlib.Core.Path.{_≡_};
 ghost use mathlib.Core.List.{[], _∷_};

@@ -30,7 +30,7 @@ impl Schedule {
         }
     }
 
-    // Puts a message at its cheapest other first frame, and its next turn behind those of others.
+    // Puts a message at its cheapest other first frame, and its next turn later by its wait.
     fn place(
         self,
         i: usize,
