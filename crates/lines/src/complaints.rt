@@ -7,8 +7,9 @@ use crate::sinks::Block;
 use crate::sinks::Sink;
 use libc::STDERR_FILENO;
 
-// Writes "PROGRAM: NAME" with no line end.
-fn begin_complaint(program: &[u8], name: &[u8]) {
+// Begins a sentence on standard error: "PROGRAM: NAME", with no line end.
+// Tables: program and name are only read. Refusals: none.
+pub fn begin_complaint(program: &[u8], name: &[u8]) {
     let mut block = io::large_buffer();
     Sink::to(STDERR_FILENO)
         .put_text(&mut block, program)
@@ -30,6 +31,16 @@ pub fn remark(program: &[u8], name: &[u8], what: &[u8]) {
     begin_complaint(program, name);
     io::write_all(STDERR_FILENO, what);
     io::write_all(STDERR_FILENO, b"\n");
+}
+
+// Keeps standard error's number from the next file that is made: where standard error is closed, that file would get it, and with it what is said of a failure. To
+// be called once the other two numbers are in use.
+// Tables: none. Refusals: none.
+pub fn hold_errors() {
+    let held = os::open_read(b"/dev/null");
+    if held > STDERR_FILENO {
+        libc::close(held);
+    }
 }
 
 impl Sink {

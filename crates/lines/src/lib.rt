@@ -7,7 +7,9 @@ mod numbers;
 mod parts;
 mod sinks;
 
+pub use complaints::begin_complaint;
 pub use complaints::complain;
+pub use complaints::hold_errors;
 pub use complaints::remark;
 pub use names::NAME_BYTES;
 pub use names::is_dash;

@@ -1,0 +1,2 @@
+-- The status of a tool's run.
+pub mod Statuses
