@@ -1,7 +1,7 @@
 /* What busdump does, in plain C, made from the text of request a of document 02, read as DECISIONS 42 to 46 read it, and not
- * from the crates: dump FILE. It writes the same lines in constant memory: two walks over the file, one a bus, each giving the
- * entries of its bus in order, are merged by the place of an entry's first record. Exit status: 0 the log is written, also of a
- * refused file; 2 wrong usage, or a file that cannot be read. */
+ * from the crates: dump [-e] [-v] FILE. It writes the same lines in constant memory: two walks over the file, one a bus, each
+ * giving the entries of its bus in order, are merged by the place of an entry's first record; and it says the same of a refused
+ * file. Exit status: 0 the log is written, also of a refused file; 2 wrong usage, or a file that cannot be read. */
 #include "commands.h"
 #include "plain.h"
 
@@ -15,7 +15,7 @@
 #include <unistd.h>
 
 #define BLOCK 65536 /* whole records: the version byte is read by itself */
-#define LINE_MOST 256
+#define LINE_MOST 512
 #define PARITY_AT 180    /* a gap runs from "the middle of its parity bit" */
 #define SPACED_LEAST 195 /* "195 to 205 after the one before" */
 #define SPACED_MOST 205
@@ -324,12 +324,19 @@ static void put_remark(const char *remark, const char *name)
     dprintf(STDOUT_FILENO, "# %s %s\n", remark, name);
 }
 
+/* ---- the options */
+
+static bool only_bad; /* -e: messages whose verdict is not 0, and single records */
+static bool in_words; /* -v: the commands' fields, and what is bad in a single record's word */
+
 /* ---- records in */
 
 typedef struct {
     const char *name;
     int file;
     unsigned refused;           /* the refusal's number, 0 for none */
+    uint8_t first[3];           /* the first bytes of a file that is refused with 8, and how many there are */
+    size_t firsts;
     uint64_t read;              /* records of either bus that were read */
     uint64_t time;              /* of the last of them */
     const uint8_t *at, *behind; /* the bytes of the block that are still to be read */
@@ -365,14 +372,15 @@ static bool read_block(reader *in)
 
 static void open_reader(reader *in, const char *name)
 {
-    uint8_t version = 0;
     in->name = name;
     in->file = open(name, O_RDONLY | O_CLOEXEC);
     if (in->file < 0)
         fail(name);
     in->at = in->behind = in->block;
-    if (read_some(in, &version, 1) == 0 || version != 1)
-        in->refused = 8;
+    if (read_some(in, in->first, 1) == 1 && in->first[0] == 1)
+        return;
+    in->refused = 8;
+    in->firsts = (size_t)pread(in->file, in->first, sizeof in->first, 0);
 }
 
 static inline uint64_t big_endian_8(const uint8_t *bytes)
@@ -573,6 +581,39 @@ static char *put_message(char *at, const entry *e)
     return put_text(at, verdicts[e->verdict]);
 }
 
+/* "A word is valid if its sync is one of the two shapes, no receiver fault is marked and parity is odd." */
+static char *put_flaws(char *at, const record *r)
+{
+    const struct {
+        bool is;
+        const char *name;
+    } flaws[] = {
+        {(__builtin_popcount(r->word) + r->parity) % 2 == 0, "parity"},
+        {r->faults == 1 || r->faults == 3, "manchester"},
+        {r->faults == 2 || r->faults == 3, "bits"},
+        {r->sync != COMMAND_SYNC && r->sync != DATA_SYNC, "sync"},
+    };
+    const char *mark = " bad=";
+    for (unsigned i = 0; i < sizeof flaws / sizeof *flaws; i++)
+        if (flaws[i].is) {
+            at = put_text(put_text(at, mark), flaws[i].name);
+            mark = ",";
+        }
+    return r->valid ? put_text(at, " bad=-") : at;
+}
+
+/* The fields of a command word: rt5,receive,sa2,count2. */
+static char *put_fields(char *at, unsigned number, uint16_t command)
+{
+    at = put_text(put_decimal(put_text(at, " c"), number), "=");
+    at = is_broadcast(command) ? put_text(at, "all") : put_decimal(put_text(at, "rt"), address_of(command));
+    at = put_text(at, transmits(command) ? ",transmit" : ",receive");
+    if (is_mode(command))
+        return put_decimal(put_text(at, ",mode,code"), count_of(command));
+    at = put_decimal(put_text(at, ",sa"), command >> 5 & 31);
+    return put_decimal(put_text(at, ",count"), words_of(command));
+}
+
 static char *put_single(char *at, const record *r)
 {
     at = put_text(at, " one sync=");
@@ -585,11 +626,29 @@ static char *put_single(char *at, const record *r)
     return put_decimal(at, r->parity);
 }
 
+/* "every entry whose verdict is not 0 and every single record" */
+static bool is_shown(const entry *e)
+{
+    return !only_bad || e->command_count == 0 || e->verdict != GOOD;
+}
+
+static char *put_in_words(char *at, const entry *e)
+{
+    if (e->command_count == 0)
+        return put_flaws(at, &e->first);
+    for (unsigned i = 0; i < e->command_count; i++)
+        at = put_fields(at, i + 1, e->commands[i]);
+    return at;
+}
+
 static void put_entry(const entry *e)
 {
+    if (!is_shown(e))
+        return;
     char *at = put_decimal(begin_line(), e->first.time);
     at = put_text(at, e->first.bus == 0 ? " A" : " B");
-    end_line(e->command_count > 0 ? put_message(at, e) : put_single(at, &e->first));
+    at = e->command_count > 0 ? put_message(at, e) : put_single(at, &e->first);
+    end_line(in_words ? put_in_words(at, e) : at);
 }
 
 /* Both readers have come to the same end. */
@@ -608,6 +667,51 @@ static void put_end(const reader *in, uint64_t entries)
     end_line(at);
 }
 
+/* What a file is that begins with no version that is read. */
+static void tell_beginning(const reader *in)
+{
+    fprintf(stderr, "busdump: %s: ", in->name);
+    if (in->firsts == 0)
+        fprintf(stderr, "it is empty, and a record file has a version byte");
+    else if (in->firsts >= 2 && in->first[0] == 0 && in->first[1] == 14)
+        fprintf(stderr, "its version byte is missing, and a record begins in its place");
+    else if (in->firsts == 1 || (in->firsts == 3 && in->first[1] == 0 && in->first[2] == 14))
+        fprintf(stderr, "its version is %u, and only version 1 is read", in->first[0]);
+    else
+        fprintf(stderr, "it is no record file: its first byte is %u, and no record begins behind it", in->first[0]);
+    fprintf(stderr, " (refusal 8)\n");
+}
+
+/* Says the refusal in words: document 01, "Numbers for a refused call". */
+static void tell_refusal(const reader *in)
+{
+    static const char *const why[] = {
+        [3] = "fewer than 16 bytes are left for a record",
+        [4] = "its length is not 14",
+        [5] = "a field or its time is out of range",
+        [6] = "it is earlier than the record before it",
+    };
+    if (in->refused == 8)
+        tell_beginning(in);
+    else if (in->refused)
+        fprintf(stderr, "busdump: %s: record %llu at byte %llu: %s (refusal %u)\n", in->name, (unsigned long long)in->read,
+                (unsigned long long)(1 + PLAIN_RECORD * in->read), why[in->refused], in->refused);
+}
+
+/* Puts the first line, and gives the name of the file: the options stand before it, as they were given. */
+static const char *read_options(int count, char **arguments)
+{
+    flush();
+    dprintf(STDOUT_FILENO, "# busdump ");
+    for (int i = 1; i < count - 1; i++) {
+        only_bad = only_bad || strcmp(arguments[i], "-e") == 0;
+        in_words = in_words || strcmp(arguments[i], "-v") == 0;
+        dprintf(STDOUT_FILENO, "%s ", arguments[i]);
+    }
+    dprintf(STDOUT_FILENO, "%s\n", arguments[count - 1]);
+    return arguments[count - 1];
+}
+
 /* The walk whose entry comes first in the file; NULL after the last one. */
 static walk *first_of(walk *a, walk *b)
 {
@@ -620,18 +724,19 @@ int main(int count, char **arguments)
 {
     static walk a, b;
     uint64_t entries = 0;
-    if (count != 2) {
-        fprintf(stderr, "usage: dump FILE\n");
+    if (count < 2) {
+        fprintf(stderr, "usage: dump [-e] [-v] FILE\n");
         return 2;
     }
-    put_remark("busdump", arguments[1]);
-    open_walk(&a, arguments[1], 0);
-    open_walk(&b, arguments[1], 1);
+    const char *name = read_options(count, arguments);
+    open_walk(&a, name, 0);
+    open_walk(&b, name, 1);
     for (walk *first; (first = first_of(&a, &b)) != NULL; entries++) {
         put_entry(&first->entry);
         next_entry(first);
     }
     put_end(&a.in, entries);
     flush();
+    tell_refusal(&a.in);
     return 0;
 }

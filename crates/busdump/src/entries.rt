@@ -11,6 +11,7 @@ use monitor::Statuses;
 use records::WordRecord;
 use verdict::Verdict;
 use words::CommandWord;
+use words::parity_bit;
 
 // Puts one of two texts.
 fn put_either(sink: Sink, block: &mut Block, which: bool, one: &[u8], other: &[u8]) -> Sink {
@@ -135,8 +136,48 @@ pub(crate) fn put_message(sink: Sink, block: &mut Block, message: Message, in_wo
     judged.put(block, b'\n')
 }
 
-// Puts the line of a record outside any message.
-pub(crate) fn put_single(sink: Sink, block: &mut Block, heard: WordRecord) -> Sink {
+// What is bad in a word as far as it is put: where it goes, and whether something was.
+struct Flaws {
+    sink: Sink,
+    any: bool,
+}
+
+impl Flaws {
+    // Puts one thing that is bad, where it is, behind those before it.
+    fn with(self, block: &mut Block, is_bad: bool, name: &[u8]) -> Flaws {
+        if !is_bad {
+            return self;
+        }
+        let before = self.sink;
+        let mark = if self.any { b',' } else { b'=' };
+        Flaws {
+            sink: before.put(block, mark).put_text(block, name),
+            any: true,
+        }
+    }
+}
+
+// Puts why a word is not valid: "A word is valid if its sync is one of the two shapes, no receiver fault is marked and parity is odd." A dash where it is.
+fn put_flaws(sink: Sink, block: &mut Block, heard: WordRecord) -> Sink {
+    let faults = heard.faults;
+    let start = Flaws {
+        sink: sink.put_text(block, b" bad"),
+        any: false,
+    };
+    let told = start
+        .with(block, heard.parity != parity_bit(heard.word), b"parity")
+        .with(block, (faults == 1) | (faults == 3), b"manchester")
+        .with(block, (faults == 2) | (faults == 3), b"bits")
+        .with(block, heard.sync == 2, b"sync");
+    let after = told.sink;
+    if told.any {
+        return after;
+    }
+    after.put_text(block, b"=-")
+}
+
+// Puts the line of a record outside any message, where it is asked for with why its word is bad.
+pub(crate) fn put_single(sink: Sink, block: &mut Block, heard: WordRecord, in_words: bool) -> Sink {
     let on_a = heard.bus == BUS_A;
     let timed = sink.put_decimal(block, heard.time.0);
     let begun = put_either(timed, block, on_a, b" A one sync=", b" B one sync=");
@@ -145,7 +186,9 @@ pub(crate) fn put_single(sink: Sink, block: &mut Block, heard: WordRecord) -> Si
     let worded = judged
         .put_text(block, b" word=")
         .put_word(block, heard.word);
-    worded
-        .put_number(block, b" parity=", heard.parity as u64)
-        .put(block, b'\n')
+    let whole = worded.put_number(block, b" parity=", heard.parity as u64);
+    if in_words {
+        return put_flaws(whole, block, heard).put(block, b'\n');
+    }
+    whole.put(block, b'\n')
 }

@@ -14,7 +14,7 @@ pub(crate) const BUS_A: u8 = 0;
 
 pub(crate) const BUS_B: u8 = 1;
 
-// The options, each with whether it was given; then the places of the argument behind them and of the first file.
+// The options, each with whether it was given; then the places of the first argument, of the one behind the options and of the first file.
 pub(crate) struct Options {
     pub(crate) has_bus: bool,
     pub(crate) bus: u8,
@@ -24,7 +24,9 @@ pub(crate) struct Options {
     pub(crate) from: u64,
     pub(crate) has_to: bool,
     pub(crate) to: u64,
+    pub(crate) only_bad: bool,
     pub(crate) in_words: bool,
+    pub(crate) begin: usize,
     pub(crate) end: usize,
     pub(crate) first: usize,
 }
@@ -43,6 +45,7 @@ enum Argument {
     Address,
     From,
     To,
+    OnlyBad,
     InWords,
     Help,
     Last,
@@ -79,6 +82,9 @@ fn argument_of(text: &[u8]) -> Argument {
     }
     if is_same(text, b"-t") {
         return Argument::To;
+    }
+    if is_same(text, b"-e") {
+        return Argument::OnlyBad;
     }
     if is_same(text, b"-v") {
         return Argument::InWords;
@@ -157,8 +163,8 @@ fn is_name(place: usize) -> bool {
 }
 
 impl Options {
-    // Gives the options before any argument: all is shown.
-    fn start() -> Options {
+    // Gives the options before any argument, the first of which stands at a place: all is shown.
+    fn start(first: usize) -> Options {
         Options {
             has_bus: false,
             bus: BUS_A,
@@ -168,9 +174,11 @@ impl Options {
             from: 0,
             has_to: false,
             to: u64::MAX,
+            only_bad: false,
             in_words: false,
-            end: 1,
-            first: 1,
+            begin: first,
+            end: first,
+            first,
         }
     }
 
@@ -265,6 +273,15 @@ impl Options {
         Step::More(next)
     }
 
+    fn take_only_bad(self) -> Step {
+        if self.only_bad {
+            return refuse_again(self.end, b"-e");
+        }
+        let mut next = self.after(1);
+        next.only_bad = true;
+        Step::More(next)
+    }
+
     fn take_in_words(self) -> Step {
         if self.in_words {
             return refuse_again(self.end, b"-v");
@@ -287,6 +304,7 @@ impl Options {
             Argument::Address => self.take_address(),
             Argument::From => self.take_from(),
             Argument::To => self.take_to(),
+            Argument::OnlyBad => self.take_only_bad(),
             Argument::InWords => self.take_in_words(),
             Argument::Help => Step::Help,
             Argument::Last => self.files_after(1),
@@ -330,9 +348,9 @@ impl Options {
     }
 }
 
-// Reads the options. Each step takes an argument, so that there are no more steps than arguments.
-pub(crate) fn read_call() -> Call {
-    let mut options = Options::start();
+// Reads the options, from a place on. Each step takes an argument, so that there are no more steps than arguments.
+pub(crate) fn read_call(first: usize) -> Call {
+    let mut options = Options::start(first);
     let mut left = os::arg_count();
     while left > 0 {
         match options.step() {

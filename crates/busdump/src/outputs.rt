@@ -10,10 +10,17 @@ fn put_argument(sink: Sink, block: &mut Block, place: usize) -> Sink {
     sink.put_name(block, &text[..length]).put(block, b' ')
 }
 
-// Puts "# busdump OPTIONS NAME", the options as they were given, so that a narrowed log is not taken for a whole one. They end before a place.
-pub(crate) fn put_title(sink: Sink, block: &mut Block, end: usize, name: &[u8]) -> Sink {
+// Puts "# busdump OPTIONS NAME", the options as they were given, so that a narrowed log is not taken for a whole one. They stand from a place on up to
+// another.
+pub(crate) fn put_title(
+    sink: Sink,
+    block: &mut Block,
+    begin: usize,
+    end: usize,
+    name: &[u8],
+) -> Sink {
     let mut after = sink.put_text(block, b"# busdump ");
-    let mut place = 1;
+    let mut place = begin;
     while place < end {
         after = put_argument(after, block, place);
         place += 1;

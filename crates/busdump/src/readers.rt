@@ -3,6 +3,7 @@
 ghost use Prim.Native.Nat.{_≤_};
 ghost use lib.ListN.{length};
 use lines::Block;
+use lines::between;
 use monitor::Found;
 use monitor::Side;
 use monitor::Stop;
@@ -20,21 +21,11 @@ pub(crate) struct Reader {
     pub(crate) failed: bool,
 }
 
-// How a reading begins: behind the version, refused, or with a read that failed.
+// How a reading begins: behind the version, refused with so many bytes in the chunk, or with a read that failed.
 pub(crate) enum Begun {
     Behind(Reader),
-    Refused(Refusal),
+    Refused(Refusal, usize),
     Failed,
-}
-
-// Gives the bytes of a chunk from a place up to another, none where it has not so many.
-fn part(chunk: &[u8], from: usize, to: usize) -> &[u8] {
-    if from <= to {
-        if to <= chunk.len() {
-            return &chunk[from..to];
-        }
-    }
-    &chunk[0..0]
 }
 
 // Moves the bytes from a place up to another to the front, and gives how many they are.
@@ -69,7 +60,7 @@ impl Reader {
             return Begun::Failed;
         }
         let count = io::count(got, chunk);
-        match open_file(part(chunk, 0, count)) {
+        match open_file(between(chunk, 0, count)) {
             Opened::At(cursor) => Begun::Behind(Reader {
                 fd,
                 side: Side::start(bus),
@@ -77,7 +68,7 @@ impl Reader {
                 to: count,
                 failed: false,
             }),
-            Opened::Refused(refusal) => Begun::Refused(refusal),
+            Opened::Refused(refusal) => Begun::Refused(refusal, count),
         }
     }
 
@@ -115,7 +106,7 @@ impl Reader {
         let kept = move_front(chunk, self.from, self.to);
         let got = read_behind(self.fd, chunk, kept);
         if got == 0 {
-            return self.end(part(chunk, 0, kept));
+            return self.end(between(chunk, 0, kept));
         }
         self.with(kept, io::count(got, chunk), got < 0)
     }
@@ -123,7 +114,7 @@ impl Reader {
     // Brings the side to its next entry, or to the end of the chunk; where no record of it waits any more, the next is read.
     pub(crate) fn feed(self, chunk: &mut Block) -> Reader {
         let side = self.side;
-        let fed = side.feed(part(chunk, self.from, self.to));
+        let fed = side.feed(between(chunk, self.from, self.to));
         let taken = fed.taken;
         if taken == 0 {
             return self.refill(chunk);

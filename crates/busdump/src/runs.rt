@@ -1,6 +1,8 @@
 // One run of the program: the files opened, listed and closed, one after the other (02 a). Every file is opened to read alone, so that one
 // which gets the number of a closed standard error takes none of what is said. Refusals: as the closing line of a file says them.
 use crate::complaints::PROGRAM;
+use crate::complaints::explain_beginning;
+use crate::complaints::explain_record;
 use crate::dumps::Dump;
 use crate::dumps::Ending;
 use crate::options::BUS_A;
@@ -11,39 +13,87 @@ use crate::outputs::put_title;
 use crate::readers::Begun;
 use crate::readers::Reader;
 use crate::tallies::Tally;
+use crate::tallies::byte_of;
 use libc::SEEK_CUR;
 use libc::STDOUT_FILENO;
 use lines::Block;
 use lines::NAME_BYTES;
 use lines::Sink;
+use lines::between;
 use lines::complain;
 use lines::is_dash;
 use lines::remark;
+use status::Status;
 use words::Refusal;
 
-// Says why a file has no log, and closes it by its name.
-fn give_up(listed: Sink, listing: &mut Block, name: &[u8], why: &[u8]) -> Sink {
-    remark(&PROGRAM, name, why);
-    listed.end_in_error(listing, &PROGRAM, name)
+// A file that is closed: where the next one's lines go, and whether all of it was read and listed.
+struct Closed {
+    listed: Sink,
+    well: bool,
 }
 
-// Closes a file that was refused as a whole.
-fn end_refused(listed: Sink, listing: &mut Block, refusal: Refusal) -> Sink {
+impl Closed {
+    // A file that is closed by what went wrong, which was said.
+    fn badly(listed: Sink) -> Closed {
+        Closed {
+            listed,
+            well: false,
+        }
+    }
+}
+
+// Says why a file has no log, and closes it by its name.
+fn give_up(listed: Sink, listing: &mut Block, name: &[u8], why: &[u8]) -> Closed {
+    remark(&PROGRAM, name, why);
+    Closed::badly(listed.end_in_error(listing, &PROGRAM, name))
+}
+
+// Says what failed just now, and closes the file by its name.
+fn fail(listed: Sink, listing: &mut Block, name: &[u8]) -> Closed {
+    Closed::badly(listed.fail(listing, &PROGRAM, name))
+}
+
+// Closes a file that was refused as a whole, and that begins with so many bytes of the chunk.
+fn end_refused(
+    listed: Sink,
+    listing: &mut Block,
+    name: &[u8],
+    refusal: Refusal,
+    chunk: &Block,
+    count: usize,
+) -> Closed {
     let ended = put_refused(listed, listing, refusal.0, 0, 0, 0);
-    ended.flush_told(listing, &PROGRAM)
+    let told = ended.flush_told(listing, &PROGRAM);
+    explain_beginning(name, refusal.0, between(chunk, 0, count));
+    Closed::badly(told)
 }
 
 impl Ending {
+    // Closes a log that was read up to its end, or up to a record that is refused.
+    fn close_read(self, listing: &mut Block, name: &[u8]) -> Closed {
+        let tally = self.tally;
+        let ended = tally.close(listing, self.refusal, self.records);
+        let listed = ended.flush_told(listing, &PROGRAM);
+        if self.refusal == Refusal::NONE.0 {
+            return Closed {
+                listed,
+                well: !listed.failed,
+            };
+        }
+        explain_record(name, self.refusal, self.records, byte_of(self.records));
+        Closed::badly(listed)
+    }
+
     // Closes a log, whatever stopped it.
-    fn close(self, listing: &mut Block, name: &[u8]) -> Sink {
+    fn close(self, listing: &mut Block, name: &[u8]) -> Closed {
         let tally = self.tally;
         let listed = tally.listed;
         if listed.failed {
             complain(&PROGRAM, b"standard output");
-            return listed;
+            return Closed::badly(listed);
         }
         if self.unread {
-            return listed.fail(listing, &PROGRAM, name);
+            return fail(listed, listing, name);
         }
         if !self.agreed {
             return give_up(
@@ -53,8 +103,7 @@ impl Ending {
                 b": it changed while it was read, and these lines are not its log",
             );
         }
-        let ended = tally.close(listing, self.refusal, self.records);
-        ended.flush_told(listing, &PROGRAM)
+        self.close_read(listing, name)
     }
 }
 
@@ -66,7 +115,7 @@ fn dump_readings(
     listing: &mut Block,
     name: &[u8],
     options: Options,
-) -> Sink {
+) -> Closed {
     let last = start.list_all(ahead, behind, listing, options);
     last.ending().close(listing, name)
 }
@@ -80,15 +129,15 @@ fn dump_behind(
     listing: &mut Block,
     name: &[u8],
     options: Options,
-) -> Sink {
+) -> Closed {
     let mut behind = io::large_buffer();
     match Reader::begin(again, BUS_B, &mut behind) {
         Begun::Behind(second) => {
             let start = Dump::on(first, second, Tally::start(listed));
             dump_readings(start, ahead, &mut behind, listing, name, options)
         }
-        Begun::Refused(_) => give_up(listed, listing, name, b": it changed while it was read"),
-        Begun::Failed => listed.fail(listing, &PROGRAM, name),
+        Begun::Refused(_, _) => give_up(listed, listing, name, b": it changed while it was read"),
+        Begun::Failed => fail(listed, listing, name),
     }
 }
 
@@ -100,19 +149,27 @@ fn dump_both(
     listing: &mut Block,
     name: &[u8],
     options: Options,
-) -> Sink {
+) -> Closed {
     let mut ahead = io::large_buffer();
     match Reader::begin(input, BUS_A, &mut ahead) {
         Begun::Behind(first) => {
             dump_behind(first, &mut ahead, again, listed, listing, name, options)
         }
-        Begun::Refused(refusal) => end_refused(listed, listing, refusal),
-        Begun::Failed => listed.fail(listing, &PROGRAM, name),
+        Begun::Refused(refusal, count) => {
+            end_refused(listed, listing, name, refusal, &ahead, count)
+        }
+        Begun::Failed => fail(listed, listing, name),
     }
 }
 
 // Lists the log of a file that is open once. A pipe has no place to go back to: what it brings comes once.
-fn dump_open(input: i32, listed: Sink, listing: &mut Block, name: &[u8], options: Options) -> Sink {
+fn dump_open(
+    input: i32,
+    listed: Sink,
+    listing: &mut Block,
+    name: &[u8],
+    options: Options,
+) -> Closed {
     if libc::lseek(input, 0, SEEK_CUR) < 0 {
         return give_up(
             listed,
@@ -123,7 +180,7 @@ fn dump_open(input: i32, listed: Sink, listing: &mut Block, name: &[u8], options
     }
     let again = os::open_read(name);
     if again < 0 {
-        return listed.fail(listing, &PROGRAM, name);
+        return fail(listed, listing, name);
     }
     let after = dump_both(input, again, listed, listing, name, options);
     libc::close(again);
@@ -132,11 +189,11 @@ fn dump_open(input: i32, listed: Sink, listing: &mut Block, name: &[u8], options
 
 // Lists the log of a file. The first line goes out before it is opened: where standard output is closed, the file would take its number. Nothing waits before it
 // and it fits the block, so that only the flush can fail.
-fn dump_file(sink: Sink, listing: &mut Block, name: &[u8], options: Options) -> Sink {
-    let titled = put_title(sink, listing, options.end, name);
+fn dump_file(sink: Sink, listing: &mut Block, name: &[u8], options: Options) -> Closed {
+    let titled = put_title(sink, listing, options.begin, options.end, name);
     let listed = titled.flush_told(listing, &PROGRAM);
     if listed.failed {
-        return listed;
+        return Closed::badly(listed);
     }
     if is_dash(name) {
         return give_up(
@@ -148,7 +205,7 @@ fn dump_file(sink: Sink, listing: &mut Block, name: &[u8], options: Options) -> 
     }
     let input = os::open_read(name);
     if input < 0 {
-        return listed.fail(listing, &PROGRAM, name);
+        return fail(listed, listing, name);
     }
     let after = dump_open(input, listed, listing, name, options);
     libc::close(input);
@@ -156,20 +213,24 @@ fn dump_file(sink: Sink, listing: &mut Block, name: &[u8], options: Options) -> 
 }
 
 // Lists the log of the file that an argument names.
-fn dump_argument(sink: Sink, listing: &mut Block, place: usize, options: Options) -> Sink {
+fn dump_argument(sink: Sink, listing: &mut Block, place: usize, options: Options) -> Closed {
     let mut name = [0u8; NAME_BYTES];
     let length = os::arg(place, &mut name);
     dump_file(sink, listing, &name[..length], options)
 }
 
-// Lists the logs of all files. Where standard output fails, nothing could be shown of those behind.
-pub(crate) fn dump_files(options: Options) {
+// Lists the logs of all files, and gives whether all went well. Where standard output fails, nothing could be shown of those behind.
+pub(crate) fn dump_files(options: Options) -> Status {
     let count = os::arg_count();
     let mut listing = io::large_buffer();
     let mut sink = Sink::to(STDOUT_FILENO);
+    let mut status = Status::Good;
     let mut place = options.first;
     while place < count && !sink.failed {
-        sink = dump_argument(sink, &mut listing, place, options);
+        let closed = dump_argument(sink, &mut listing, place, options);
+        sink = closed.listed;
+        status = Status::of(closed.well).after(status);
         place += 1;
     }
+    status
 }

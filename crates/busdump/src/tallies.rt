@@ -11,6 +11,7 @@ use monitor::Commands;
 use monitor::Entry;
 use monitor::Found;
 use monitor::Message;
+use monitor::Outcome;
 use records::WordRecord;
 use std::num::wrapping_add_u64;
 use words::Refusal;
@@ -22,9 +23,21 @@ pub(crate) struct Tally {
     pub(crate) records: u64,
 }
 
+// Says whether a message has the verdict 0.
+fn is_good(message: Message) -> bool {
+    let outcome = message.outcome;
+    match outcome {
+        Outcome::None => false,
+        Outcome::Given(verdict) => verdict.0 == 0,
+    }
+}
+
 // Says whether a message is asked for.
 fn shows_message(options: Options, message: Message) -> bool {
     if !options.shows(message.bus, message.time.0) {
+        return false;
+    }
+    if options.only_bad & is_good(message) {
         return false;
     }
     let commands = message.commands;
@@ -42,7 +55,7 @@ fn shows_single(options: Options, heard: WordRecord) -> bool {
 }
 
 // Gives the place of a record's first byte: 16 bytes a record, and the version before them.
-fn byte_of(record: u64) -> u64 {
+pub(crate) fn byte_of(record: u64) -> u64 {
     wrapping_add_u64(record << 4, 1)
 }
 
@@ -79,7 +92,7 @@ impl Tally {
         if !shows_single(options, heard) {
             return self.count(listed, 1);
         }
-        let after = put_single(listed, listing, heard);
+        let after = put_single(listed, listing, heard, options.in_words);
         self.count(after, 1)
     }
 

@@ -4,10 +4,10 @@ use Rattle.busdump.proofs.options.read_call.Statement.{statement}
 use Rattle.busdump.proofs.options.read_call.Tie as tie
 
 abbrev Inv-loop : tie.InvT-loop
-Inv-loop options₀ left₀ options left = Unit {0}
+Inv-loop first options₀ left₀ options left = Unit {0}
 
 abbrev μ-loop : tie.MeasureT-loop
-μ-loop options₀ left₀ options left = left
+μ-loop first options₀ left₀ options left = left
 
 start-requires : tie.Need-start-requires Inv-loop μ-loop
 start-requires c κs = search needs

@@ -5,10 +5,10 @@ use Rattle.busdump.proofs.outputs.put_title.Statement.{statement}
 use Rattle.busdump.proofs.outputs.put_title.Tie as tie
 
 abbrev Inv-loop : tie.InvT-loop
-Inv-loop block₀ end name after₀ place₀ t8 block after place = Unit {0}
+Inv-loop block₀ begin end name after₀ place₀ t8 block after place = Unit {0}
 
 abbrev μ-loop : tie.MeasureT-loop
-μ-loop block₀ end name after₀ place₀ t8 block after place = end - place
+μ-loop block₀ begin end name after₀ place₀ t8 block after place = end - place
 
 slice-aggregate-put-text : tie.Need-slice-aggregate-put-text Inv-loop μ-loop
 slice-aggregate-put-text c = search needs

@@ -5,10 +5,10 @@ use Rattle.busdump.proofs.runs.dump_files.Statement.{statement}
 use Rattle.busdump.proofs.runs.dump_files.Tie as tie
 
 abbrev Inv-loop : tie.InvT-loop
-Inv-loop options count listing₀ sink₀ place₀ listing sink place = Unit {0}
+Inv-loop options count listing₀ sink₀ status₀ place₀ listing sink status place = Unit {0}
 
 abbrev μ-loop : tie.MeasureT-loop
-μ-loop options count listing₀ sink₀ place₀ listing sink place = count - place
+μ-loop options count listing₀ sink₀ status₀ place₀ listing sink status place = count - place
 
 arg-count-requires : tie.Need-arg-count-requires Inv-loop μ-loop
 arg-count-requires c κs = search needs
@@ -24,6 +24,12 @@ loop-holds c = search needs
 
 dump-argument-requires : tie.Need-dump-argument-requires Inv-loop μ-loop
 dump-argument-requires c κs = search needs
+
+of-requires : tie.Need-of-requires Inv-loop μ-loop
+of-requires c κs = search needs
+
+after-requires : tie.Need-after-requires Inv-loop μ-loop
+after-requires c κs = search needs
 
 add-place : tie.Need-add-place Inv-loop μ-loop
 add-place c = search needs
@@ -51,6 +57,8 @@ dump-files-spec =
     to-requires
     loop-holds
     dump-argument-requires
+    of-requires
+    after-requires
     add-place
     loop-less
     loop-again
