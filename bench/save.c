@@ -1,6 +1,6 @@
 /* What bussave does, in plain C, written from request c of document 02 and its readings alone: save DAMAGED CLEAN. It writes
- * the same lines and the same clean file, in constant memory. Exit status: 0 saved; 2 wrong usage, or a file that cannot be
- * read or written. */
+ * the same lines and the same clean file, in constant memory, and says on standard error that nothing was kept, or how many
+ * whole records it skipped for their time alone. Exit status: 0 saved; 2 wrong usage, or a file that cannot be read or written. */
 #include "plain.h"
 
 #include <endian.h>
@@ -74,6 +74,8 @@ typedef struct {
     uint64_t run;         /* the place behind the last kept record: from here to the next one is a skipped run */
     uint64_t last, reach; /* the times that may be kept: from the last kept one to so many ticks after it */
     uint64_t records, skipped;
+    uint64_t late, early, first_late, first_early; /* whole records that are skipped for their time, and the first's places */
+    uint64_t stray;                                /* the place behind the latest of them */
 } saving;
 
 #define NO_TIME UINT64_MAX
@@ -132,6 +134,19 @@ static inline size_t next_place(const uint8_t *bytes, size_t at, size_t n)
 #endif
 }
 
+/* A record at a place that is skipped for its time alone, unless it lies inside another such. */
+static void count_stray(saving *s, uint64_t place, uint64_t time)
+{
+    if (place < s->stray)
+        return;
+    s->stray = place + PLAIN_RECORD;
+    if (time < s->last) {
+        if (s->early++ == 0)
+            s->first_early = place;
+    } else if (s->late++ == 0)
+        s->first_late = place;
+}
+
 /* Walks until fewer than 16 bytes are left, and gives how many it walked. */
 static size_t walk(saving *s, const uint8_t *bytes, size_t n)
 {
@@ -144,8 +159,11 @@ static size_t walk(saving *s, const uint8_t *bytes, size_t n)
             s->place = start + at;
             keep(s, bytes + at, time);
             at += PLAIN_RECORD;
-        } else
+        } else {
+            if (time != NO_TIME)
+                count_stray(s, start + at, time);
             at = next_place(bytes, at, n);
+        }
     }
     s->place = start + at;
     return at;
@@ -197,6 +215,26 @@ static void put_end(saving *s)
     put_text(&s->lines, "\n");
 }
 
+/* A number with a comma before every three digits. */
+static void tell_grouped(uint64_t number)
+{
+    if (number >= 1000) {
+        tell_grouped(number / 1000);
+        fprintf(stderr, ",%03u", (unsigned)(number % 1000));
+    } else
+        fprintf(stderr, "%u", (unsigned)number);
+}
+
+static void tell_strays(const char *name, uint64_t count, uint64_t first, const char *why)
+{
+    if (count == 0)
+        return;
+    fprintf(stderr, "bussave: %s: ", name);
+    tell_grouped(count);
+    fprintf(stderr, " whole record%s skipped from byte %llu on: %s; see LINES\n", count == 1 ? "" : "s",
+            (unsigned long long)first, why);
+}
+
 /* The last lines come last of all: what they say was saved is on the disk. */
 static void close_all(saving *s, int damaged)
 {
@@ -230,5 +268,9 @@ int main(int count, char **arguments)
     save_rest(&s, damaged, arguments[1]);
     put_end(&s);
     close_all(&s, damaged);
+    if (s.records == 0 && s.place > 1)
+        fprintf(stderr, "bussave: %s: no record in it could be kept\n", arguments[1]);
+    tell_strays(arguments[1], s.late, s.first_late, "more than 10 s after the one before");
+    tell_strays(arguments[1], s.early, s.first_early, "earlier than the one before");
     return 0;
 }

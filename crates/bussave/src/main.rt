@@ -5,65 +5,82 @@ mod complaints;
 mod outputs;
 mod runs;
 mod savings;
+mod strays;
 
 use complaints::PROGRAM;
-use complaints::write_usage;
-use libc::ENAMETOOLONG;
-use libc::STDERR_FILENO;
-use libc::STDOUT_FILENO;
+use complaints::show_usage;
 use lines::NAME_BYTES;
 use lines::is_dash;
-use lines::is_same;
 use lines::remark;
 use runs::save;
+use status::Begun;
+use status::Status;
+use status::asks_help;
+use status::begin;
+use status::is_at;
+use status::is_name;
+use status::is_option;
+use std::num::wrapping_add_usize;
 
-// Says whether the first argument asks for help. One that is longer than "--help" gives a length of 0, and asks for none.
-fn asks_help() -> bool {
-    let mut text = [0u8; 6];
-    let length = os::arg(1, &mut text);
-    is_same(&text[..length], b"--help") || is_same(&text[..length], b"-h")
-}
-
-// Says whether the argument that was just asked for is a name. Where it is none, standard error says why.
-fn is_name(length: usize, which: &[u8]) -> bool {
-    if os::errno() == ENAMETOOLONG {
+// Says whether an argument may be a name where no `--` stands before it. Where it may not, standard error says so.
+fn is_plain(text: &[u8]) -> bool {
+    if is_option(text) {
         remark(
             &PROGRAM,
-            which,
-            b" is longer than a name can be: 4095 bytes",
+            text,
+            b" is no option; a file of that name goes behind --",
         );
-        return false;
-    }
-    if length == 0 {
-        remark(&PROGRAM, which, b" is empty: it must be the name of a file");
         return false;
     }
     true
 }
 
-fn main() {
-    if asks_help() {
-        return write_usage(STDOUT_FILENO);
-    }
-    if os::arg_count() != 3 {
-        return write_usage(STDERR_FILENO);
-    }
+// Saves the file that the argument at a place names to the one that the next names.
+fn save_named(first: usize, behind: bool) -> Status {
     let mut damaged = [0u8; NAME_BYTES];
-    let from = os::arg(1, &mut damaged);
-    if !is_name(from, b"DAMAGED") {
-        return;
+    let from = os::arg(first, &mut damaged);
+    if !is_name(&PROGRAM, b"DAMAGED", from) {
+        return Status::Usage;
     }
     let mut clean = [0u8; NAME_BYTES];
-    let to = os::arg(2, &mut clean);
-    if !is_name(to, b"CLEAN") {
-        return;
+    let to = os::arg(wrapping_add_usize(first, 1), &mut clean);
+    if !is_name(&PROGRAM, b"CLEAN", to) {
+        return Status::Usage;
+    }
+    if !behind && !(is_plain(&damaged[..from]) && is_plain(&clean[..to])) {
+        return Status::Usage;
     }
     if is_dash(&clean[..to]) {
-        return remark(
+        remark(
             &PROGRAM,
             b"CLEAN",
             b" cannot be -: the lines go to standard output, so the clean file needs a name",
         );
+        return Status::Usage;
     }
-    save(&damaged[..from], &clean[..to]);
+    save(&damaged[..from], &clean[..to])
+}
+
+// Does what the arguments from a place on ask, and gives how that ended.
+fn run(first: usize) -> Status {
+    if asks_help(first) {
+        return show_usage(true);
+    }
+    let behind = is_at(first, b"--");
+    let names = if behind {
+        wrapping_add_usize(first, 1)
+    } else {
+        first
+    };
+    if os::arg_count() != wrapping_add_usize(names, 2) {
+        return show_usage(false);
+    }
+    save_named(names, behind)
+}
+
+fn main() {
+    match begin(&PROGRAM) {
+        Begun::On(front) => front.end(&PROGRAM, run(front.first)),
+        Begun::Over(front, status) => front.end(&PROGRAM, status),
+    }
 }

@@ -5,13 +5,14 @@ use crate::outputs::put_end;
 use crate::outputs::put_run;
 use crate::savings::ROOM_BYTES;
 use crate::savings::Saving;
+use crate::strays::Strays;
 use libc::SEEK_CUR;
-use libc::STDERR_FILENO;
 use libc::STDIN_FILENO;
 use libc::STDOUT_FILENO;
 use lines::Block;
 use lines::Sink;
 use lines::complain;
+use lines::hold_errors;
 use lines::is_dash;
 use lines::remark;
 use records::RECORD_BYTES;
@@ -19,6 +20,7 @@ use records::VERSION;
 use salvage::Ended;
 use salvage::Salvage;
 use salvage::Totals;
+use status::Status;
 
 // What stopped a saving before the end of the file.
 enum Fault {
@@ -44,8 +46,9 @@ fn open_damaged(name: &[u8]) -> i32 {
 }
 
 // Says that what is in the clean file is not all. It stays: what it has up to its last whole record is good.
-fn say_cut(clean: &[u8]) {
+fn say_cut(clean: &[u8]) -> Status {
     remark(&PROGRAM, clean, b": not whole");
+    Status::Failed
 }
 
 // Says whether a file of so many bytes has the version and so many records.
@@ -98,7 +101,14 @@ impl Saving {
     }
 
     // Ends a saving of which every byte is settled. The clean file is closed first, so that "# end" says that it is whole.
-    fn end_whole(self, totals: Totals, listing: &mut Block, saved: &Block, clean: &[u8]) {
+    fn end_whole(
+        self,
+        totals: Totals,
+        listing: &mut Block,
+        saved: &Block,
+        damaged: &[u8],
+        clean: &[u8],
+    ) -> Status {
         let run = totals.run;
         let listed = self.listed;
         let after = put_run(listed, listing, run).flush(listing);
@@ -108,9 +118,13 @@ impl Saving {
         let sink = self.clean;
         match close_clean(sink, saved, totals.records) {
             Closed::Whole => {
-                let ended = put_end(after, listing, totals);
-                ended.flush_told(listing, &PROGRAM);
-                return;
+                let ended = put_end(after, listing, totals).flush_told(listing, &PROGRAM);
+                if (totals.records == 0) & (totals.bytes > 1) {
+                    remark(&PROGRAM, damaged, b": no record in it could be kept");
+                }
+                let strays = self.strays;
+                strays.tell(damaged);
+                return Status::of(!ended.failed);
             }
             Closed::Short => remark(
                 &PROGRAM,
@@ -120,15 +134,15 @@ impl Saving {
             Closed::Failed => complain(&PROGRAM, clean),
         }
         after.end_in_error(listing, &PROGRAM, clean);
-        say_cut(clean);
+        say_cut(clean)
     }
 
     // Ends a saving that came to the end of the file. Each byte that was read must have been settled.
-    fn end_all(self, listing: &mut Block, saved: &Block, damaged: &[u8], clean: &[u8]) {
+    fn end_all(self, listing: &mut Block, saved: &Block, damaged: &[u8], clean: &[u8]) -> Status {
         let salvage = self.salvage;
         if let Ended::Whole(totals) = salvage.end() {
             if totals.bytes == self.read {
-                return self.end_whole(totals, listing, saved, clean);
+                return self.end_whole(totals, listing, saved, damaged, clean);
             }
         }
         remark(&PROGRAM, damaged, b": not every byte was settled");
@@ -136,11 +150,11 @@ impl Saving {
         listed.end_in_error(listing, &PROGRAM, damaged);
         let sink = self.clean;
         sink.flush(saved);
-        say_cut(clean);
+        say_cut(clean)
     }
 
     // Ends a saving, whatever stopped it.
-    fn finish(self, listing: &mut Block, saved: &Block, damaged: &[u8], clean: &[u8]) {
+    fn finish(self, listing: &mut Block, saved: &Block, damaged: &[u8], clean: &[u8]) -> Status {
         let listed = self.listed;
         match self.fault() {
             Fault::None => {
@@ -156,7 +170,7 @@ impl Saving {
         }
         let sink = self.clean;
         sink.flush(saved);
-        say_cut(clean);
+        say_cut(clean)
     }
 }
 
@@ -168,7 +182,7 @@ fn save_chunks(
     listing: &mut Block,
     damaged: &[u8],
     clean: &[u8],
-) {
+) -> Status {
     let mut room = [0u8; ROOM_BYTES];
     let mut saved = io::large_buffer();
     let mut begun = first;
@@ -176,36 +190,28 @@ fn save_chunks(
     let versioned = sink.put(&mut saved, VERSION);
     begun.clean = versioned;
     let last = begun.take_all(input, chunk, &mut room, listing, &mut saved);
-    last.finish(listing, &saved, damaged, clean);
-}
-
-// Keeps standard error's number from the clean file: where standard error is closed, the next file that is opened gets it, and with it what
-// is said of a failure. The other two numbers are in use, since something was read and a line was written.
-fn hold_errors() {
-    let held = os::open_read(b"/dev/null");
-    if held > STDERR_FILENO {
-        libc::close(held);
-    }
+    last.finish(listing, &saved, damaged, clean)
 }
 
 // Saves the damaged file to the clean one, where the first line is written.
-fn save_listed(listed: Sink, listing: &mut Block, damaged: &[u8], clean: &[u8]) {
+fn save_listed(listed: Sink, listing: &mut Block, damaged: &[u8], clean: &[u8]) -> Status {
     let input = open_damaged(damaged);
     if input < 0 {
         listed.fail(listing, &PROGRAM, damaged);
-        return;
+        return Status::Failed;
     }
     let mut chunk = io::large_buffer();
     let got = libc::read(input, &mut chunk);
     if got < 0 {
         listed.fail(listing, &PROGRAM, damaged);
-        return;
+        return Status::Failed;
     }
+    // something was read and a line was written, so that only standard error's number can be free
     hold_errors();
     let output = os::create(clean);
     if output < 0 {
         listed.fail(listing, &PROGRAM, clean);
-        return;
+        return Status::Failed;
     }
     let first = Saving {
         got,
@@ -213,19 +219,21 @@ fn save_listed(listed: Sink, listing: &mut Block, damaged: &[u8], clean: &[u8]) 
         listed,
         clean: Sink::to(output),
         read: 0,
+        strays: Strays::none(),
     };
-    save_chunks(first, input, &mut chunk, listing, damaged, clean);
+    save_chunks(first, input, &mut chunk, listing, damaged, clean)
 }
 
 // Saves the damaged file to the clean one. The first line goes out before a file is opened: where standard output is closed, one that is
 // opened would take its number, and with it the lines.
-pub(crate) fn save(damaged: &[u8], clean: &[u8]) {
+pub(crate) fn save(damaged: &[u8], clean: &[u8]) -> Status {
     let mut listing = io::large_buffer();
     let sink = Sink::to(STDOUT_FILENO);
     let titled = sink.put_named(&mut listing, b"# bussave ", damaged);
     let listed = titled.flush(&listing);
     if listed.failed {
-        return complain(&PROGRAM, b"standard output");
+        complain(&PROGRAM, b"standard output");
+        return Status::Failed;
     }
-    save_listed(listed, &mut listing, damaged, clean);
+    save_listed(listed, &mut listing, damaged, clean)
 }

@@ -6,6 +6,7 @@ ghost use Prim.Native.Nat.{_≤_};
 ghost use lib.ListN.{length};
 ghost use Rattle.salvage.specs.Machine.{askedOf, isSettledOf};
 use crate::outputs::put_run;
+use crate::strays::Strays;
 use lines::Block;
 use lines::Sink;
 use salvage::Salvage;
@@ -16,13 +17,15 @@ pub(crate) const ROOM_BYTES: usize = 65552;
 
 pub(crate) type Room = [u8; ROOM_BYTES];
 
-// What goes from chunk to chunk: what the last read answered, the machine, where lines and records go, and how many bytes were read.
+// What goes from chunk to chunk: what the last read answered, the machine, where lines and records go, how many bytes were read, and the records that were
+// skipped for their time.
 pub(crate) struct Saving {
     pub(crate) got: isize,
     pub(crate) salvage: Salvage,
     pub(crate) listed: Sink,
     pub(crate) clean: Sink,
     pub(crate) read: u64,
+    pub(crate) strays: Strays,
 }
 
 // Gives so many bytes of the room from a place on, none where it has not so many: then the clean file has not its size at the end.
@@ -88,12 +91,14 @@ impl Saving {
         let listed = self.listed;
         let clean = self.clean;
         let after_run = put_run(listed, listing, run);
+        let strays = self.strays;
         Saving {
             got: self.got,
             salvage: after,
             listed: after_run,
             clean: put_unless(after_run.failed, clean, saved, bytes),
             read: self.read,
+            strays: strays.after(room, progress),
         }
     }
 

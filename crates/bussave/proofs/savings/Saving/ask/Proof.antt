@@ -16,9 +16,12 @@ put-run-requires c κs = search needs
 put-unless-requires : tie.Need-put-unless-requires
 put-unless-requires c κs = search needs
 
+after-requires : tie.Need-after-requires
+after-requires c κs = search needs
+
 returns : tie.Need-returns
-returns c = asked-salvage _ _ _ (c .before .before .before .before .before .before .before .before .before .before .ask .ensures)
+returns c = asked-salvage _ _ _ (c .before .before .before .before .before .before .before .before .before .before .before .before .ask .ensures)
 
 pub ask-spec : {M : Type 1} → statement M
 ask-spec =
-    tie.close (tie.spec ask-requires part-requires put-run-requires put-unless-requires returns)
+    tie.close (tie.spec ask-requires part-requires put-run-requires put-unless-requires after-requires returns)
