@@ -19,7 +19,7 @@ fn take_chunk(reading: Reading, chunk: &[u8]) -> Reading {
     while i < chunk.len() {
         let byte = chunk[i];
         if byte == b'\n' {
-            draft = draft.take(gathering.entry());
+            draft = draft.take(gathering.entry(), gathering.number);
             if draft.is_bad() {
                 return Reading::on(draft, gathering, false);
             }
@@ -27,7 +27,11 @@ fn take_chunk(reading: Reading, chunk: &[u8]) -> Reading {
         } else {
             gathering = gathering.take(byte);
             if gathering.is_bad() {
-                return Reading::on(draft.take(gathering.entry()), gathering, false);
+                return Reading::on(
+                    draft.take(gathering.entry(), gathering.number),
+                    gathering,
+                    false,
+                );
             }
         }
         i += 1;
@@ -55,7 +59,7 @@ impl Reading {
     fn end(self) -> Reading {
         let gathering = self.gathering;
         let draft = self.draft;
-        let last = draft.take(gathering.entry());
+        let last = draft.take(gathering.entry(), gathering.number);
         Reading::on(last, gathering, false)
     }
 

@@ -1,8 +1,12 @@
-// One run of the program: the plan read, checked or proposed, and its lines written (02 j). The file is opened to read alone, so that one which
-// gets the number of a closed standard error takes none of what is said. Refusals: 15, as the closing line says it.
+// One run of the program: the plan read, checked or proposed, its lines written and its file made (02 j). Each function says whether the schedule
+// was accepted and all of that was written. The plan is opened to read alone, so that one which gets the number of a closed standard error takes
+// none of what is said. Refusals: 15, as the closing line says it.
 use crate::complaints::PROGRAM;
 use crate::complaints::complain_of_line;
+use crate::complaints::say_proposed;
 use crate::drafts::Draft;
+use crate::files::save;
+use crate::outputs::Form;
 use crate::outputs::write_line;
 use crate::outputs::write_named;
 use crate::outputs::write_numbered;
@@ -12,10 +16,8 @@ use crate::readers::read_plan;
 use libc::STDIN_FILENO;
 use lines::complain;
 use lines::is_dash;
-use schedule::Frames;
 use schedule::Outcome;
 use schedule::Proposal;
-use schedule::Schedule;
 use words::Refusal;
 
 // Opens a plan, "-" being standard input. A negative answer: it cannot be opened.
@@ -27,87 +29,144 @@ fn open_plan(name: &[u8]) -> i32 {
 }
 
 // Says what failed just now, and ends the lines by the name of the file.
-fn fail(name: &[u8]) {
+fn fail(name: &[u8]) -> bool {
     complain(&PROGRAM, name);
+    end_named(name)
+}
+
+// Ends the lines by the name of a file that failed.
+fn end_named(name: &[u8]) -> bool {
     write_named(b"# error ", name);
+    false
 }
 
-// "more messages, another period or an impossible plan is refused with 15": that line alone.
-fn refuse(refusal: Refusal) {
-    write_numbered(b"# refused ", refusal.0 as u64);
+// Ends the lines by a number: that of a refusal, or of what is rejected or bad.
+fn end_numbered(begin: &[u8], number: u64) -> bool {
+    write_numbered(begin, number);
+    false
 }
 
-// Writes what the check says of a schedule, behind all that it checked where the first frames are below their periods.
-fn check(schedule: Schedule, firsts: &Frames, capacities: &Frames) {
-    match schedule.check(firsts, capacities) {
-        Outcome::Refused(refusal) => refuse(refusal),
-        Outcome::RejectedMessage(message) => {
-            write_numbered(b"# rejected message=", message);
-        }
-        Outcome::RejectedFrame(frame) => {
-            if write_schedule(schedule, firsts, capacities) {
-                write_numbered(b"# rejected frame=", frame);
-            }
-        }
-        Outcome::Accepted => {
-            if write_schedule(schedule, firsts, capacities) {
-                write_line(b"# accepted");
-            }
-        }
+// Gives how messages are listed.
+fn form_of(in_words: bool) -> Form {
+    if in_words {
+        return Form::InWords;
     }
-}
-
-// "The planner's own output goes through the same check."
-fn propose(schedule: Schedule, capacities: &Frames) {
-    let mut firsts = [0u64; 64];
-    match schedule.propose(capacities, &mut firsts) {
-        Proposal::Found => check(schedule, &firsts, capacities),
-        Proposal::None => {
-            write_line(b"# none");
-        }
-        Proposal::Refused(refusal) => refuse(refusal),
-    }
+    Form::Brief
 }
 
 impl Draft {
-    // Checks a plan that has all its first frames, and else proposes all of them.
-    fn judge(self) {
+    // Writes all messages and frames.
+    fn list(self, in_words: bool) -> bool {
+        let schedule = self.schedule;
+        let firsts = self.firsts;
+        let capacities = self.capacities;
+        write_schedule(form_of(in_words), schedule, &firsts, &capacities)
+    }
+
+    // "more messages, another period or an impossible plan is refused with 15": that line alone.
+    fn refuse(self, name: &[u8], refusal: Refusal) -> bool {
+        self.explain_refusal(name);
+        end_numbered(b"# refused ", refusal.0 as u64)
+    }
+
+    // Ends the lines of a plan with a first frame that is not below its period: that line alone.
+    fn reject_message(self, name: &[u8], message: u64) -> bool {
+        self.explain_first(name, message);
+        end_numbered(b"# rejected message=", message)
+    }
+
+    // Ends the lines of a plan that overloads a frame, behind all messages and frames.
+    fn reject_frame(self, name: &[u8], in_words: bool, frame: u64) -> bool {
+        if !self.list(in_words) {
+            return false;
+        }
+        self.explain_frame(name, frame);
+        end_numbered(b"# rejected frame=", frame)
+    }
+
+    // Ends the lines of a plan that holds, behind all messages and frames and once its file is on the disk, where one is asked for.
+    fn accept(self, out: &[u8], in_words: bool) -> bool {
+        if !self.list(in_words) {
+            return false;
+        }
+        let schedule = self.schedule;
+        let firsts = self.firsts;
+        let capacities = self.capacities;
+        if out.len() > 0 {
+            if !save(out, schedule, &firsts, &capacities) {
+                return end_named(out);
+            }
+        }
+        write_line(b"# accepted")
+    }
+
+    // Writes what the check says of a schedule.
+    fn check(self, name: &[u8], out: &[u8], in_words: bool) -> bool {
+        let schedule = self.schedule;
+        let firsts = self.firsts;
+        let capacities = self.capacities;
+        match schedule.check(&firsts, &capacities) {
+            Outcome::Refused(refusal) => self.refuse(name, refusal),
+            Outcome::RejectedMessage(message) => self.reject_message(name, message),
+            Outcome::RejectedFrame(frame) => self.reject_frame(name, in_words, frame),
+            Outcome::Accepted => self.accept(out, in_words),
+        }
+    }
+
+    // "The planner's own output goes through the same check."
+    fn propose(self, name: &[u8], out: &[u8], in_words: bool) -> bool {
         let schedule = self.schedule;
         let capacities = self.capacities;
-        let firsts = self.firsts;
-        if self.unplaced {
-            return propose(schedule, &capacities);
+        let mut firsts = [0u64; 64];
+        match schedule.propose(&capacities, &mut firsts) {
+            Proposal::Found => {
+                say_proposed(name, schedule.count, self.given);
+                self.with_firsts(firsts).check(name, out, in_words)
+            }
+            Proposal::None => {
+                self.explain_none(name);
+                write_line(b"# none");
+                false
+            }
+            Proposal::Refused(refusal) => self.refuse(name, refusal),
         }
-        check(schedule, &firsts, &capacities)
+    }
+
+    // Checks a plan that has all its first frames, and else proposes all of them.
+    fn judge(self, name: &[u8], out: &[u8], in_words: bool) -> bool {
+        if self.unplaced {
+            return self.propose(name, out, in_words);
+        }
+        self.check(name, out, in_words)
     }
 }
 
 impl Reading {
     // Ends the lines of a plan, whatever stopped its reading.
-    fn close(self, name: &[u8]) {
+    fn close(self, name: &[u8], out: &[u8], in_words: bool) -> bool {
         if self.failed {
             return fail(name);
         }
         let draft = self.draft;
         if !draft.is_bad() {
-            return draft.judge();
+            return draft.judge(name, out, in_words);
         }
         let number = self.gathering.number;
         let fault = draft.fault;
         complain_of_line(name, number, fault);
-        write_numbered(b"# error line=", number);
+        end_numbered(b"# error line=", number)
     }
 }
 
-// Checks or proposes the schedule of a plan. The first line goes out before it is opened: where standard output is closed, the plan would take
-// its number.
-pub(crate) fn plan(name: &[u8]) {
+// Checks or proposes the schedule of a plan; a file of it is made where that has a name. The first line goes out before the plan is opened: where
+// standard output is closed, it would take its number.
+pub(crate) fn plan(name: &[u8], out: &[u8], in_words: bool) -> bool {
     if !write_named(b"# busplan ", name) {
-        return;
+        return false;
     }
     let input = open_plan(name);
     if input < 0 {
         return fail(name);
     }
-    read_plan(input).close(name);
+    read_plan(input).close(name, out, in_words)
 }

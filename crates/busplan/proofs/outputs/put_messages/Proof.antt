@@ -5,31 +5,31 @@ use Rattle.busplan.proofs.outputs.put_messages.Statement.{statement}
 use Rattle.busplan.proofs.outputs.put_messages.Tie as tie
 
 abbrev Inv-loop : tie.InvT-loop
-Inv-loop block₀ firsts messages count after₀ i₀ block after i = Unit {0}
+Inv-loop block₀ form firsts messages count after₀ i₀ block after i = Unit {0}
 
 abbrev μ-loop : tie.MeasureT-loop
-μ-loop block₀ firsts messages count after₀ i₀ block after i = 64 - i
+μ-loop block₀ form firsts messages count after₀ i₀ block after i = 64 - i
 
 loop-holds : tie.Need-loop-holds Inv-loop μ-loop
 loop-holds c = tt
 
-mul-message : tie.Need-mul-message Inv-loop μ-loop
-mul-message c = search needs
-
-array-copy-out-message : tie.Need-array-copy-out-message Inv-loop μ-loop
-array-copy-out-message c = search needs
-
 mul-put-message : tie.Need-mul-put-message Inv-loop μ-loop
 mul-put-message c = search needs
+
+array-copy-out-put-message : tie.Need-array-copy-out-put-message Inv-loop μ-loop
+array-copy-out-put-message c = search needs
+
+mul-put-message-2 : tie.Need-mul-put-message-2 Inv-loop μ-loop
+mul-put-message-2 c = search needs
 
 element-copy-out-put-message : tie.Need-element-copy-out-put-message Inv-loop μ-loop
 element-copy-out-put-message c = search needs
 
-load-requires : tie.Need-load-requires Inv-loop μ-loop
-load-requires c κs = tt
-
 put-message-requires : tie.Need-put-message-requires Inv-loop μ-loop
 put-message-requires c κs = tt
+
+put-requires : tie.Need-put-requires Inv-loop μ-loop
+put-requires c κs = tt
 
 add-i : tie.Need-add-i Inv-loop μ-loop
 add-i c = search needs
@@ -53,12 +53,12 @@ put-messages-spec =
     Inv-loop
     μ-loop
     loop-holds
-    mul-message
-    array-copy-out-message
     mul-put-message
+    array-copy-out-put-message
+    mul-put-message-2
     element-copy-out-put-message
-    load-requires
     put-message-requires
+    put-requires
     add-i
     loop-less
     loop-again

@@ -1,0 +1,54 @@
+-- `is_even` is safe and ends: the measure is what is left of the frames. Assumes nothing.
+use Prim.Native.Nat.{_-_}
+use borrow.Author.Needs.{needs}
+use Rattle.busplan.proofs.files.is_even.Statement.{statement}
+use Rattle.busplan.proofs.files.is_even.Tie as tie
+
+abbrev Inv-loop : tie.InvT-loop
+Inv-loop capacities i₀ i = Unit {0}
+
+abbrev μ-loop : tie.MeasureT-loop
+μ-loop capacities i₀ i = 64 - i
+
+loop-holds : tie.Need-loop-holds Inv-loop μ-loop
+loop-holds c = tt
+
+mul-if1 : tie.Need-mul-if1 Inv-loop μ-loop
+mul-if1 c = search needs
+
+element-copy-out-if1 : tie.Need-element-copy-out-if1 Inv-loop μ-loop
+element-copy-out-if1 c = search needs
+
+element-copy-out-if1-2 : tie.Need-element-copy-out-if1-2 Inv-loop μ-loop
+element-copy-out-if1-2 c = search needs
+
+returns : tie.Need-returns Inv-loop μ-loop
+returns c = tt
+
+add-i : tie.Need-add-i Inv-loop μ-loop
+add-i c = search needs
+
+loop-less : tie.Need-loop-less Inv-loop μ-loop
+loop-less c = search needs
+
+loop-again : tie.Need-loop-again Inv-loop μ-loop
+loop-again c = tt
+
+returns-2 : tie.Need-returns-2 Inv-loop μ-loop
+returns-2 c = tt
+
+pub is-even-spec : {M : Type 1} → statement M
+is-even-spec =
+    tie.close
+    (tie.spec
+    Inv-loop
+    μ-loop
+    loop-holds
+    mul-if1
+    element-copy-out-if1
+    element-copy-out-if1-2
+    returns
+    add-i
+    loop-less
+    loop-again
+    returns-2)
