@@ -1,4 +1,5 @@
 // The bench: what one line leaves to the next, but for the tables and the bytes of the buffer, which are lent beside it.
+use crate::reasons::Reason;
 use crate::replies::Reply;
 use crate::verdicts::plan_of;
 use terminal::Answer;
@@ -84,8 +85,8 @@ impl Bench {
     }
 
     // "A line that is no call .. writes `?` and changes nothing"
-    pub(crate) fn no_call(self) -> Done {
-        self.replied(Reply::NoCall)
+    pub(crate) fn no_call(self, reason: Reason) -> Done {
+        self.replied(Reply::NoCall(reason))
     }
 
     // A refusal leaves all as it was.

@@ -1,4 +1,4 @@
-// The calls: a line is held against the forms of bench-script.md, and is the call of the first that it has.
+// The calls: a line is held against the forms of docs/BENCH.md, and is the call of the first that it has.
 use crate::numbers::number_of;
 use crate::parts::next_start;
 use crate::parts::part_end;
@@ -30,6 +30,7 @@ pub(crate) enum Name {
     Judge,
     Looked,
     File,
+    Help,
     // no call
     None,
 }
@@ -43,9 +44,9 @@ pub(crate) struct Call {
 const NAME_LETTERS: usize = 9;
 
 // How the calls are written: a name, which spaces fill up to nine characters, then a letter for each number. r is r or t, w a word, m a
-// mask, * the rest of the line; the others are decimal: f a flag, s a subaddress, k a number of masks, b below 256, p a place of a table,
-// n a number of words, l one of words that are lent, h below 65,536, t below 2^64.
-const FORMS: [[u8; 16]; 24] = [
+// mask, * the rest of the line; the others are decimal: f a flag, s a subaddress, k a number of masks, b below 256, l a number of words that
+// are lent, h below 65,536, t below 2^64.
+const FORMS: [[u8; 16]; 25] = [
     *b"word     tbbbwb ",
     *b"mark     t      ",
     *b"mask     rsm    ",
@@ -60,9 +61,9 @@ const FORMS: [[u8; 16]; 24] = [
     *b"bit      w      ",
     *b"selftest        ",
     *b"restart         ",
-    *b"send     pw     ",
-    *b"received p      ",
-    *b"received pn     ",
+    *b"send     tw     ",
+    *b"received t      ",
+    *b"received tt     ",
     *b"state           ",
     *b"plan     bwwbtt ",
     *b"back     tbbbwb ",
@@ -70,10 +71,11 @@ const FORMS: [[u8; 16]; 24] = [
     *b"judge           ",
     *b"looked          ",
     *b"file            ",
+    *b"help            ",
 ];
 
 // The names of these, in the same order.
-const NAMES: [Name; 24] = [
+const NAMES: [Name; 25] = [
     Name::Word,
     Name::Mark,
     Name::Mask,
@@ -98,11 +100,12 @@ const NAMES: [Name; 24] = [
     Name::Judge,
     Name::Looked,
     Name::File,
+    Name::Help,
 ];
 
 // Gives the name of the form of that number.
 fn name_at(number: usize) -> Name {
-    if number < 24 {
+    if number < 25 {
         return NAMES[number];
     }
     Name::None

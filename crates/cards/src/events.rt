@@ -4,6 +4,7 @@ use crate::benches::Done;
 use crate::benches::TABLE_WORDS;
 use crate::numbers::byte;
 use crate::numbers::word;
+use crate::reasons::Reason;
 use crate::replies::Reply;
 use records::WordRecord;
 use terminal::Event;
@@ -45,30 +46,33 @@ impl Bench {
         let received = self.receive;
         let transmitted = self.transmit;
         if received > receive.len() {
-            return self.no_call();
+            return self.no_call(Reason::Past);
         }
         if transmitted > transmit.len() {
-            return self.no_call();
+            return self.no_call(Reason::Past);
         }
         self.happen(event, &mut receive[0..received], &transmit[0..transmitted])
     }
 
     // send I WORD
     pub(crate) fn send(self, place: usize, word: u16, transmit: &mut [u16]) -> Done {
+        if place >= TABLE_WORDS {
+            return self.no_call(Reason::Past);
+        }
         if place < transmit.len() {
             transmit[place] = word;
             return self.ok();
         }
-        self.no_call()
+        self.no_call(Reason::Past)
     }
 
     // received I, received I N
     pub(crate) fn received(self, place: usize, count: usize) -> Done {
-        if place > TABLE_WORDS {
-            return self.no_call();
+        if place >= TABLE_WORDS {
+            return self.no_call(Reason::Past);
         }
         if count > TABLE_WORDS - place {
-            return self.no_call();
+            return self.no_call(Reason::Past);
         }
         self.replied(Reply::Words(place, count))
     }

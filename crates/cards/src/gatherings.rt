@@ -1,28 +1,35 @@
 // A line as it comes in, byte by byte: runs of spaces are made one, and those in front and at the end are dropped.
+use std::num::wrapping_add_u64;
 
 // What is known of the line so far.
 pub(crate) struct Gathering {
-    // bytes kept in the line
-    length: usize,
+    // its number, counted from 1
+    pub(crate) number: u64,
+    // how many bytes of it were kept
+    pub(crate) length: usize,
     // a space stands before the next byte
     spaced: bool,
     // a byte came: the line is not empty
     begun: bool,
     // it begins with #
     remark: bool,
-    // it does not fit, so it is no call: the longest call has 196,613 bytes
-    over: bool,
 }
 
 impl Gathering {
-    pub(crate) fn none() -> Gathering {
+    // Gives a line of that number before its first byte.
+    pub(crate) fn start(number: u64) -> Gathering {
         Gathering {
+            number,
             length: 0,
             spaced: false,
             begun: false,
             remark: false,
-            over: false,
         }
+    }
+
+    // Gives the next line before its first byte.
+    pub(crate) fn next(self) -> Gathering {
+        Gathering::start(wrapping_add_u64(self.number, 1))
     }
 
     // "A line that is empty or begins with `#` writes nothing."
@@ -30,20 +37,13 @@ impl Gathering {
         !self.begun | self.remark
     }
 
-    // Gives how many bytes the line has, none where it does not fit: a line of none is no call either.
-    pub(crate) fn bytes(self) -> usize {
-        if self.over { 0 } else { self.length }
-    }
-
-    // Keeps a byte at the end, where there is room.
+    // Keeps a byte at the end, where there is room: a line that fills it is longer than any call.
     fn kept(self, line: &mut [u8], byte: u8) -> Gathering {
         let mut next = self;
         let length = next.length;
         if length < line.len() {
             line[length] = byte;
             next.length = length + 1;
-        } else {
-            next.over = true;
         }
         next
     }

@@ -54,15 +54,13 @@ fn nothing_of(text: &[u8]) -> Number {
     Number::None
 }
 
-// Gives the greatest decimal number that a letter of a form stands for: "a number that does not fit its type, a place past the end of a table".
+// Gives the greatest decimal number that a letter of a form stands for: "a number that does not fit its type".
 fn most(letter: u8) -> u64 {
     match letter {
         b'f' => 1,
         b's' => 31,
         b'k' => 64,
         b'b' => 255,
-        b'p' => 1023,
-        b'n' => 1024,
         b'l' => 2048,
         b'h' => 65535,
         _ => 0xFFFF_FFFF_FFFF_FFFF,

@@ -1,4 +1,4 @@
-// The lines of bench-script.md as it writes them, with a capital for each value.
+// The lines of docs/BENCH.md as it writes them, with a capital for each value.
 use lines::Block;
 use lines::Sink;
 
@@ -10,7 +10,7 @@ fn put_value(sink: Sink, out: &mut Block, capital: u8, value: u64) -> Sink {
     sink.put_decimal(out, value)
 }
 
-// Puts a line as bench-script.md writes it, each capital for the next of the values.
+// Puts a line as docs/BENCH.md writes it, each capital for the next of the values.
 pub(crate) fn put_line(sink: Sink, out: &mut Block, line: &[u8], values: [u64; 8]) -> Sink {
     let mut after = sink;
     let mut used = 0;

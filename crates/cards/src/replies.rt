@@ -2,6 +2,7 @@
 use crate::benches::Done;
 use crate::outputs::put_line;
 use crate::outputs::put_one;
+use crate::reasons::Reason;
 use lines::Block;
 use lines::Sink;
 use terminal::Answer;
@@ -23,7 +24,9 @@ pub(crate) enum Reply {
     // how many records a verdict looked at
     Looked(u8),
     Records(u64),
-    NoCall,
+    // the calls go to standard error
+    Help,
+    NoCall(Reason),
 }
 
 fn bit(on: bool) -> u64 {
@@ -141,7 +144,8 @@ fn put_done(sink: Sink, out: &mut Block, done: Done, receive: &[u16]) -> Sink {
         Reply::Verdict(verdict) => put_one(sink, out, b"verdict N", verdict.0 as u64),
         Reply::Looked(count) => put_one(sink, out, b"looked N", count as u64),
         Reply::Records(count) => put_one(sink, out, b"records N", count),
-        Reply::NoCall => sink.put_text(out, b"?"),
+        Reply::Help => sink.put_text(out, b"ok"),
+        Reply::NoCall(_) => sink.put_text(out, b"?"),
     }
 }
 

@@ -4,19 +4,24 @@ use crate::benches::Done;
 use crate::calls::Call;
 use crate::calls::Name;
 use crate::calls::call_of;
+use crate::complaints::PROGRAM;
 use crate::events::record_of;
 use crate::gatherings::Gathering;
 use crate::numbers::mask;
 use crate::numbers::word;
 use crate::parts::last;
+use crate::reasons::Reason;
+use crate::reasons::say;
 use crate::replies::Reply;
 use crate::replies::put_reply;
 use crate::setups::MASKS;
+use crate::usages::write_calls;
 use crate::verdicts::plan_of;
 use libc::STDOUT_FILENO;
 use lines::Block;
 use lines::Sink;
 use lines::between;
+use lines::complain;
 use terminal::Event;
 use words::Moment;
 
@@ -27,10 +32,11 @@ pub(crate) type Table = [u16; 2048];
 
 pub(crate) type Buffer = [u8; 65536];
 
-// What a line leaves to the next: the bench, and where its output goes.
+// What a line leaves to the next: the bench, where its output goes, and whether a line was no call.
 pub(crate) struct Run {
     pub(crate) bench: Bench,
     pub(crate) sink: Sink,
+    pub(crate) missed: bool,
 }
 
 // What a block leaves to the next, which may cut a line.
@@ -54,7 +60,7 @@ impl Bench {
             Name::Selftest => terminal.clear_selftest(),
             Name::Restart => terminal.restart(),
             _ => {
-                return self.no_call();
+                return self.no_call(Reason::Form);
             }
         };
         self.with(next).ok()
@@ -75,6 +81,7 @@ impl Bench {
             Name::ReceivedWords => self.received(numbers[0] as usize, numbers[1] as usize),
             Name::State => self.replied(Reply::State),
             Name::Plan => self.planned(plan_of(numbers)),
+            Name::Help => self.replied(Reply::Help),
             _ => self.host(name, numbers[0]),
         }
     }
@@ -103,18 +110,35 @@ impl Bench {
     }
 }
 
+// Says on standard error what a call has to say there, and gives whether its line was none.
+fn tell(reply: Reply, number: u64, line: &[u8]) -> bool {
+    match reply {
+        Reply::Help => {
+            write_calls();
+            false
+        }
+        Reply::NoCall(reason) => {
+            say(reason, number, line);
+            true
+        }
+        _ => false,
+    }
+}
+
 impl Run {
     pub(crate) fn start() -> Run {
         let bench = Bench::start();
         Run {
             bench,
             sink: Sink::to(STDOUT_FILENO),
+            missed: false,
         }
     }
 
-    // Makes the call that a line is, and writes its line.
+    // Makes the call that the line of a number is, and writes its line.
     fn run(
         self,
+        number: u64,
         line: &[u8],
         receive: &mut [u16],
         transmit: &mut [u16],
@@ -125,9 +149,12 @@ impl Run {
         let done = bench.perform(call_of(line), line, receive, transmit, buffer);
         let after = done.bench;
         let sink = self.sink;
+        let reply = done.reply;
+        let missed = tell(reply, number, line);
         Run {
             bench: after,
             sink: put_reply(sink, out, done, receive),
+            missed: self.missed | missed,
         }
     }
 
@@ -144,12 +171,21 @@ impl Run {
         if gathering.is_silent() {
             return self;
         }
-        let text = between(line, 0, gathering.bytes());
-        self.run(text, receive, transmit, buffer, out)
+        let text = between(line, 0, gathering.length);
+        self.run(gathering.number, text, receive, transmit, buffer, out)
     }
 }
 
-// Takes the bytes of a block, and runs each line that ends in it.
+// Writes the lines that wait. Where that fails, or failed before, it is said; nothing is read after it, so once.
+pub(crate) fn write_waiting(sink: Sink, out: &Block) -> Sink {
+    let after = sink.flush(out);
+    if after.failed {
+        complain(&PROGRAM, b"standard output");
+    }
+    after
+}
+
+// Takes the bytes of a block, and runs each line that ends in it. What these write goes out with the block, for who waits for it.
 pub(crate) fn run_block(
     progress: Progress,
     block: &[u8],
@@ -166,11 +202,14 @@ pub(crate) fn run_block(
         let byte = block[i];
         if byte == b'\n' {
             run = run.run_line(gathering, line, receive, transmit, buffer, out);
-            gathering = Gathering::none();
+            gathering = gathering.next();
         } else {
             gathering = gathering.take(line, byte);
         }
         i += 1;
     }
+    let sink = run.sink;
+    let after = write_waiting(sink, out);
+    run.sink = after;
     Progress { run, gathering }
 }

@@ -6,6 +6,7 @@ use crate::fillings::Filled;
 use crate::fillings::fill;
 use crate::numbers::byte;
 use crate::numbers::word;
+use crate::reasons::Reason;
 use crate::replies::Reply;
 use lines::between;
 use records::Counted;
@@ -50,10 +51,10 @@ impl Bench {
     pub(crate) fn back(self, heard: WordRecord, buffer: &mut [u8]) -> Done {
         let end = self.buffered;
         if end > buffer.len() {
-            return self.no_call();
+            return self.no_call(Reason::NoRoom);
         }
         if buffer.len() - end < RECORD_BYTES {
-            return self.no_call();
+            return self.no_call(Reason::NoRoom);
         }
         let refusal = heard.write(&mut buffer[end..]);
         if refusal.0 != 0 {
@@ -66,7 +67,7 @@ impl Bench {
     pub(crate) fn bytes(self, text: &[u8], buffer: &mut [u8]) -> Done {
         match fill(text, buffer, self.buffered) {
             Filled::To(length) => self.filled(length),
-            Filled::None => self.no_call(),
+            Filled::None => self.no_call(Reason::NoBytes),
         }
     }
 
@@ -82,7 +83,7 @@ impl Bench {
     // judge, looked
     pub(crate) fn judge(self, name: Name, buffer: &[u8]) -> Done {
         if !self.planned {
-            return self.no_call();
+            return self.no_call(Reason::NoPlan);
         }
         let plan = self.plan;
         match plan.judge(between(buffer, 0, self.buffered)) {

@@ -20,8 +20,8 @@ shared-slice-read-byte c = search needs
 run-line-requires : tie.Need-run-line-requires Inv-loop μ-loop
 run-line-requires c κs = tt
 
-none-requires : tie.Need-none-requires Inv-loop μ-loop
-none-requires c κs = tt
+next-requires : tie.Need-next-requires Inv-loop μ-loop
+next-requires c κs = tt
 
 take-requires : tie.Need-take-requires Inv-loop μ-loop
 take-requires c κs = tt
@@ -35,6 +35,9 @@ loop-less c = search needs
 loop-again : tie.Need-loop-again Inv-loop μ-loop
 loop-again c = tt
 
+write-waiting-requires : tie.Need-write-waiting-requires Inv-loop μ-loop
+write-waiting-requires c κs = tt
+
 returns : tie.Need-returns Inv-loop μ-loop
 returns c = tt
 
@@ -47,9 +50,10 @@ run-block-spec =
     loop-holds
     shared-slice-read-byte
     run-line-requires
-    none-requires
+    next-requires
     take-requires
     add-i
     loop-less
     loop-again
+    write-waiting-requires
     returns)
