@@ -14,40 +14,37 @@
 
 enum { ALL_READ, REFUSED, UNUSABLE, DISAGREE };
 
-#define VERSION_BYTES 1
-#define RECORD_BYTES 16
-
 /* Document 01's words. Of refusal 6 the half that is about records: this program has no events. */
 static const char *const verdicts[] = {
-    "good",
-    "no response",
-    "still waiting",
-    "early",
-    "late",
-    "not valid",
-    "data sync for a status, or command sync for data",
-    "wrong address",
-    "message error",
-    "busy",
-    "data not 195 to 205 after the last word, or missing",
-    "a record left over",
+    [BUS_VERDICT_GOOD] = "good",
+    [BUS_VERDICT_NO_RESPONSE] = "no response",
+    [BUS_VERDICT_WAITING] = "still waiting",
+    [BUS_VERDICT_EARLY] = "early",
+    [BUS_VERDICT_LATE] = "late",
+    [BUS_VERDICT_INVALID] = "not valid",
+    [BUS_VERDICT_SYNC] = "data sync for a status, or command sync for data",
+    [BUS_VERDICT_ADDRESS] = "wrong address",
+    [BUS_VERDICT_ERROR] = "message error",
+    [BUS_VERDICT_BUSY] = "busy",
+    [BUS_VERDICT_SPACING] = "data not 195 to 205 after the last word, or missing",
+    [BUS_VERDICT_LEFT_OVER] = "a record left over",
 };
 static const char *const refusals[] = {
-    "none",
-    "a lent word table is not 1,024 words, a lent mask table not 32 masks",
-    "own address above 30",
-    "fewer than 16 bytes for a record",
-    "record length not 14",
-    "a field or a time out of range",
-    "returned record not later than the one before (E first) or after Q",
-    "impossible plan",
-    "version not 1, or no byte",
-    "fewer than 16 bytes to write a record",
+    [BUS_REFUSED_NONE] = "none",
+    [BUS_REFUSED_TABLE_SIZE] = "a lent word table is not 1,024 words, a lent mask table not 32 masks",
+    [BUS_REFUSED_OWN_ADDRESS] = "own address above 30",
+    [BUS_REFUSED_SHORT_RECORD] = "fewer than 16 bytes for a record",
+    [BUS_REFUSED_RECORD_LENGTH] = "record length not 14",
+    [BUS_REFUSED_OUT_OF_RANGE] = "a field or a time out of range",
+    [BUS_REFUSED_OUT_OF_ORDER] = "returned record not later than the one before (E first) or after Q",
+    [BUS_REFUSED_IMPOSSIBLE_PLAN] = "impossible plan",
+    [BUS_REFUSED_WRONG_VERSION] = "version not 1, or no byte",
+    [BUS_REFUSED_NO_ROOM] = "fewer than 16 bytes to write a record",
 };
 static const char another_bus[] = "a record of another bus than the plan's";
 
 /* Numbers are appended, and a later library may give one that this program does not know. */
-#define WORDS(table, number) ((number) < sizeof(table) / sizeof *(table) ? (table)[number] : "a number without words here")
+#define WORDS(table, number) ((number) < sizeof(table) / sizeof *(table) && (table)[number] ? (table)[number] : "a number without words here")
 
 /* ---- complaints */
 
@@ -75,7 +72,7 @@ static int refused_at(uint8_t number, uint64_t record, uint64_t byte, const char
 
 static uint64_t byte_of(uint64_t record)
 {
-    return VERSION_BYTES + RECORD_BYTES * record;
+    return BUS_VERSION_BYTES + BUS_RECORD_BYTES * record;
 }
 
 /* ---- the plan of the command line */
@@ -206,8 +203,8 @@ static uint8_t print_record(uint64_t number, const uint8_t *bytes, size_t n)
     uint16_t word;
     uint8_t refused = bus_record_read(bytes, n, &time, &bus, &sync, &faults, &word, &parity);
     if (!refused)
-        printf("%" PRIu64 " %" PRIu64 " %c sync=%u faults=%u word=%04X parity=%u valid=%u\n", number, time, bus ? 'B' : 'A', sync, faults, word,
-               parity, bus_word_valid(sync, faults, word, parity));
+        printf("%" PRIu64 " %" PRIu64 " %c sync=%u faults=%u word=%04X parity=%u valid=%u\n", number, time, bus == BUS_B ? 'B' : 'A', sync, faults,
+               word, parity, bus_word_valid(sync, faults, word, parity));
     return refused;
 }
 
@@ -221,10 +218,10 @@ static int disagree(uint8_t refused, uint64_t printed, uint8_t checked, uint64_t
 static int print_file(const File *file)
 {
     uint64_t records = 0, printed = 0;
-    uint8_t checked = bus_file_check(file->bytes, file->size, &records), refused = 0;
-    if (checked == 8)
-        return refused_at(8, 0, 0, WORDS(refusals, 8));
-    for (size_t at = VERSION_BYTES; at < file->size && !refused; at += RECORD_BYTES) {
+    uint8_t checked = bus_file_check(file->bytes, file->size, &records), refused = BUS_REFUSED_NONE;
+    if (checked == BUS_REFUSED_WRONG_VERSION)
+        return refused_at(checked, 0, 0, WORDS(refusals, checked));
+    for (size_t at = BUS_VERSION_BYTES; at < file->size && !refused; at += BUS_RECORD_BYTES) {
         refused = print_record(printed, file->bytes + at, file->size - at);
         printed += !refused;
     }
@@ -241,8 +238,8 @@ static int print_file(const File *file)
 /* Judges the first so many records of the file. */
 static uint8_t judge(const Plan *plan, const File *file, size_t count, uint8_t *verdict)
 {
-    return bus_verdict_give(plan->commands, plan->first, plan->second, plan->bus, plan->last, plan->until, file->bytes + VERSION_BYTES,
-                            RECORD_BYTES * count, verdict);
+    return bus_verdict_give(plan->commands, plan->first, plan->second, plan->bus, plan->last, plan->until, file->bytes + BUS_VERSION_BYTES,
+                            BUS_RECORD_BYTES * count, verdict);
 }
 
 /* How many records it takes until the plan is refused: none, and it is wrong by itself, or the last of them is the bad one. A record more
@@ -263,7 +260,7 @@ static size_t count_until_refused(const Plan *plan, const File *file, size_t cou
 
 static int judge_file(const Plan *plan, const File *file)
 {
-    size_t count = (file->size - VERSION_BYTES) / RECORD_BYTES;
+    size_t count = (file->size - BUS_VERSION_BYTES) / BUS_RECORD_BYTES;
     uint8_t verdict = 0, refused = judge(plan, file, count, &verdict);
     if (!refused) {
         printf("verdict %u: %s\n", verdict, WORDS(verdicts, verdict));
@@ -271,11 +268,12 @@ static int judge_file(const Plan *plan, const File *file)
     }
     size_t taken = count_until_refused(plan, file, count);
     if (taken == 0) {
-        printf("refused %u %s: %s\n", refused, refused == 7 ? "COMMANDS FIRST SECOND" : "BUS E Q", WORDS(refusals, refused));
+        printf("refused %u %s: %s\n", refused, refused == BUS_REFUSED_IMPOSSIBLE_PLAN ? "COMMANDS FIRST SECOND" : "BUS E Q", WORDS(refusals, refused));
         return REFUSED;
     }
     /* Every field is in range, or the file had been refused: of a record, 5 can only mean its bus. */
-    return refused_at(refused, taken - 1, byte_of(taken - 1), refused == 5 ? another_bus : WORDS(refusals, refused));
+    const char *words = refused == BUS_REFUSED_OUT_OF_RANGE ? another_bus : WORDS(refusals, refused);
+    return refused_at(refused, taken - 1, byte_of(taken - 1), words);
 }
 
 int main(int count, char **arguments)
