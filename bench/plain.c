@@ -693,17 +693,17 @@ void plain_set_subsystem(plain_terminal *t, int on)
     set_flag(t, PLAIN_SUBSYSTEM, on);
 }
 
-void plain_set_fault(plain_terminal *t, int on)
+void plain_set_terminal_fault(plain_terminal *t, int on)
 {
     set_flag(t, PLAIN_TERMINAL_FLAG, on);
 }
 
-void plain_set_vector(plain_terminal *t, uint16_t word)
+void plain_set_vector_word(plain_terminal *t, uint16_t word)
 {
     t->vector = word;
 }
 
-void plain_set_bit(plain_terminal *t, uint16_t word)
+void plain_set_bit_word(plain_terminal *t, uint16_t word)
 {
     t->bit = word;
 }

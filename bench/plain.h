@@ -119,9 +119,9 @@ unsigned plain_event_mark(plain_terminal *t, uint64_t time, const plain_tables *
 void plain_set_service(plain_terminal *t, int on);
 void plain_set_busy(plain_terminal *t, int on);
 void plain_set_subsystem(plain_terminal *t, int on);
-void plain_set_fault(plain_terminal *t, int on);
-void plain_set_vector(plain_terminal *t, uint16_t word);
-void plain_set_bit(plain_terminal *t, uint16_t word);
+void plain_set_terminal_fault(plain_terminal *t, int on);
+void plain_set_vector_word(plain_terminal *t, uint16_t word);
+void plain_set_bit_word(plain_terminal *t, uint16_t word);
 void plain_clear_self_test(plain_terminal *t);
 void plain_restart(plain_terminal *t);
 

@@ -549,13 +549,13 @@ static void soak_host_call(plain_terminal *t, uint16_t *transmit, const soak_cal
         plain_set_subsystem(t, c->value);
         break;
     case SOAK_FAULT:
-        plain_set_fault(t, c->value);
+        plain_set_terminal_fault(t, c->value);
         break;
     case SOAK_VECTOR:
-        plain_set_vector(t, c->value);
+        plain_set_vector_word(t, c->value);
         break;
     case SOAK_BIT:
-        plain_set_bit(t, c->value);
+        plain_set_bit_word(t, c->value);
         break;
     case SOAK_CLEAR:
         plain_clear_self_test(t);

@@ -42,7 +42,7 @@ module _ (s : State) (w : ℕ) where
   busy-settled legal plain busy =
       let exempt : isExempt (s .setup .address) w ≡ false = rw (plain, and-false) in
       rw (exempt, legal, busy)
-      (busy-kept (s .host .fault && not (s .held .inhibit)) Terminal _ (omega arith)
+      (busy-kept (s .host .defect && not (s .held .inhibit)) Terminal _ (omega arith)
       (busy-kept (s .host .subsystem) Subsystem _ (omega arith) (flag-alone Busy _ .0)))
 
   -- so where its status is judged good it is not busy

@@ -54,9 +54,9 @@ impl Bench {
             Name::Service => terminal.set_service(on),
             Name::Busy => terminal.set_busy(on),
             Name::Subsystem => terminal.set_subsystem(on),
-            Name::Fault => terminal.set_fault(on),
-            Name::Vector => terminal.set_vector(word(number)),
-            Name::Bit => terminal.set_bit(word(number)),
+            Name::Fault => terminal.set_terminal_fault(on),
+            Name::Vector => terminal.set_vector_word(word(number)),
+            Name::Bit => terminal.set_bit_word(word(number)),
             Name::Selftest => terminal.clear_selftest(),
             Name::Restart => terminal.restart(),
             _ => {

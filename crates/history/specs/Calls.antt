@@ -7,7 +7,7 @@ use lib.ListN.{length}
 use Rattle.words.specs.Refusals.{notRefused}
 use Rattle.terminal.specs.Commands.{isOwn}
 use Rattle.terminal.specs.Settling.{noAnswer}
-use Rattle.terminal.specs.Events.{setUpRefusal, setUpOf, eventRefusal, eventOf, withHost, withService, withBusy, withSubsystem, withFault, withVector, withBit, selftestCleared, restartedOf}
+use Rattle.terminal.specs.Events.{setUpRefusal, setUpOf, eventRefusal, eventOf, withHost, withService, withBusy, withSubsystem, withTerminalFault, withVectorWord, withBitWord, selftestCleared, restartedOf}
 use Rattle.terminal.specs.declared.states.Host.{Host}
 use Rattle.terminal.specs.declared.states.Terminal.{Terminal as State}
 use Rattle.terminal.specs.declared.answers.Answer.{Answer}
@@ -19,9 +19,9 @@ pub data Setting : Type 0 where
   service : Bool → Setting
   busy : Bool → Setting
   subsystem : Bool → Setting
-  fault : Bool → Setting
-  vector : ℕ → Setting
-  bit : ℕ → Setting
+  terminalFault : Bool → Setting
+  vectorWord : ℕ → Setting
+  bitWord : ℕ → Setting
 
 -- The calls that give another terminal: set-up with any address and any two lists of masks; an event with any receive and any transmit table;
 -- "Host calls set the flags .., vector and BIT words, clear the self-test request, or restart." The reads give none. `Terminal::fresh`, which judges
@@ -55,9 +55,9 @@ abbrev pub hostOf : Host → Setting → Host
 hostOf h (service on) = withService h on
 hostOf h (busy on) = withBusy h on
 hostOf h (subsystem on) = withSubsystem h on
-hostOf h (fault on) = withFault h on
-hostOf h (vector word) = withVector h word
-hostOf h (bit word) = withBit h word
+hostOf h (terminalFault on) = withTerminalFault h on
+hostOf h (vectorWord word) = withVectorWord h word
+hostOf h (bitWord word) = withBitWord h word
 
 -- A refused set-up hands back a terminal that its caller must not use (DECISIONS 18): here the terminal that there was goes on.
 unfoldable pub step : State → Call → State

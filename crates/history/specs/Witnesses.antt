@@ -14,7 +14,7 @@ use Rattle.terminal.specs.declared.states.Terminal.{Terminal as State}
 use Rattle.terminal.specs.declared.answers.Answer.{Answer}
 use Rattle.terminal.specs.declared.events.Event.{Event}
 use Rattle.terminal.specs.declared.events.Event.the-variants.{Word}
-use Rattle.history.specs.Calls.{Call, setUp, event, host, clearSelftest, restart, service, busy, vector, isAccepted, step, run, afterPast}
+use Rattle.history.specs.Calls.{Call, setUp, event, host, clearSelftest, restart, service, busy, vectorWord, isAccepted, step, run, afterPast}
 use Rattle.history.specs.Courses.{Command, Course}
 
 -- an event with full tables
@@ -60,7 +60,7 @@ noise =
     ∷ hears (dataWord 0 1400 0x0009)
     ∷ clearSelftest
     ∷ hears (dataWord 1 1550 0x0842)
-    ∷ host (vector 0x1234)
+    ∷ host (vectorWord 0x1234)
     ∷ hears (mark 1659)
     ∷ []
 

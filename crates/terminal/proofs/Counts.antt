@@ -41,9 +41,9 @@ unfolding replyOf legalReply modeWords
 reply-most s word transmit =
     either-count (isLegal (s .setup) word) _ noWords
     (either-count (isMode word) _ _
-    (either-count (eqb (codeOf word) 16) (oneWord (s .host .vector)) _ (omega arith)
+    (either-count (eqb (codeOf word) 16) (oneWord (s .host .vectorword)) _ (omega arith)
     (either-count (eqb (codeOf word) 18) (oneWord (s .held .command .0)) _ (omega arith)
-    (either-count (eqb (codeOf word) 19) (oneWord (s .host .bit)) noWords (omega arith) (omega arith))))
+    (either-count (eqb (codeOf word) 19) (oneWord (s .host .bitword)) noWords (omega arith) (omega arith))))
     (either-count (isTransmit word && not (s .host .busy)) (tableWords transmit word) noWords (words-most word) (omega arith)))
     (omega arith)
 

@@ -13,41 +13,41 @@ use Rattle.terminal.specs.declared.states.Terminal.{Terminal as State}
 -- What is held, with one part changed.
 abbrev pub withStatus : Held → ℕ → Held
 withStatus h status =
-    record { status = record { 0 = status }; command = h .command; sync = h .sync; selftest = h .selftest; inhibit = h .inhibit; shut = h .shut }
+    record { status = record { 0 = status }; command = h .command; syncword = h .syncword; selftest = h .selftest; inhibit = h .inhibit; shut = h .shut }
 
 abbrev pub withCommand : Held → ℕ → Held
 withCommand h word =
-    record { status = h .status; command = record { 0 = word }; sync = h .sync; selftest = h .selftest; inhibit = h .inhibit; shut = h .shut }
+    record { status = h .status; command = record { 0 = word }; syncword = h .syncword; selftest = h .selftest; inhibit = h .inhibit; shut = h .shut }
 
-abbrev pub withSync : Held → ℕ → Held
-withSync h word =
-    record { status = h .status; command = h .command; sync = word; selftest = h .selftest; inhibit = h .inhibit; shut = h .shut }
+abbrev pub withSyncWord : Held → ℕ → Held
+withSyncWord h word =
+    record { status = h .status; command = h .command; syncword = word; selftest = h .selftest; inhibit = h .inhibit; shut = h .shut }
 
 abbrev pub withSelftest : Held → Bool → Held
 withSelftest h on =
-    record { status = h .status; command = h .command; sync = h .sync; selftest = on; inhibit = h .inhibit; shut = h .shut }
+    record { status = h .status; command = h .command; syncword = h .syncword; selftest = on; inhibit = h .inhibit; shut = h .shut }
 
 abbrev pub withInhibit : Held → Bool → Held
 withInhibit h on =
-    record { status = h .status; command = h .command; sync = h .sync; selftest = h .selftest; inhibit = on; shut = h .shut }
+    record { status = h .status; command = h .command; syncword = h .syncword; selftest = h .selftest; inhibit = on; shut = h .shut }
 
 abbrev pub withShut : Held → ℕ → Bool → Held
 withShut h bus on =
-    record { status = h .status; command = h .command; sync = h .sync; selftest = h .selftest; inhibit = h .inhibit; shut = set (h .shut) bus on }
+    record { status = h .status; command = h .command; syncword = h .syncword; selftest = h .selftest; inhibit = h .inhibit; shut = set (h .shut) bus on }
 
 -- "4 shuts the other bus, 5 opens it; 6 inhibits the terminal flag, 7 allows it again; 1 sets the sync word to 0, 17 to its data; 3 sets the
 -- self-test request; 8 and restart give the fresh state, host flags and words kept." Departs from 002 2.4.7.7 and 2.4.7.8, which inhibit and
 -- allow before the answer. (003 7.3.3.5.1.7)
 unfoldable pub effectOf : ℕ → Held → ℕ → ℕ → ℕ → Held
 effectOf own h code bus word =
-    cond (eqb code 1) (withSync h 0)
+    cond (eqb code 1) (withSyncWord h 0)
     (cond (eqb code 3) (withSelftest h true)
     (cond (eqb code 4) (withShut h (otherBus bus) true)
     (cond (eqb code 5) (withShut h (otherBus bus) false)
     (cond (eqb code 6) (withInhibit h true)
     (cond (eqb code 7) (withInhibit h false)
     (cond (eqb code 8) (freshHeld own)
-    (cond (eqb code 17) (withSync h word) h)))))))
+    (cond (eqb code 17) (withSyncWord h word) h)))))))
 
 -- What is held once a message is settled with that status: "effects still happen" where the answer is withheld; only a legal mode command has
 -- its effect (DECISIONS 3).

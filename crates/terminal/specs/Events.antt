@@ -109,27 +109,27 @@ withHost s host =
 
 abbrev pub withService : Host → Bool → Host
 withService h on =
-    record { service = on; busy = h .busy; subsystem = h .subsystem; fault = h .fault; vector = h .vector; bit = h .bit }
+    record { service = on; busy = h .busy; subsystem = h .subsystem; defect = h .defect; vectorword = h .vectorword; bitword = h .bitword }
 
 abbrev pub withBusy : Host → Bool → Host
 withBusy h on =
-    record { service = h .service; busy = on; subsystem = h .subsystem; fault = h .fault; vector = h .vector; bit = h .bit }
+    record { service = h .service; busy = on; subsystem = h .subsystem; defect = h .defect; vectorword = h .vectorword; bitword = h .bitword }
 
 abbrev pub withSubsystem : Host → Bool → Host
 withSubsystem h on =
-    record { service = h .service; busy = h .busy; subsystem = on; fault = h .fault; vector = h .vector; bit = h .bit }
+    record { service = h .service; busy = h .busy; subsystem = on; defect = h .defect; vectorword = h .vectorword; bitword = h .bitword }
 
-abbrev pub withFault : Host → Bool → Host
-withFault h on =
-    record { service = h .service; busy = h .busy; subsystem = h .subsystem; fault = on; vector = h .vector; bit = h .bit }
+abbrev pub withTerminalFault : Host → Bool → Host
+withTerminalFault h on =
+    record { service = h .service; busy = h .busy; subsystem = h .subsystem; defect = on; vectorword = h .vectorword; bitword = h .bitword }
 
-abbrev pub withVector : Host → ℕ → Host
-withVector h word =
-    record { service = h .service; busy = h .busy; subsystem = h .subsystem; fault = h .fault; vector = word; bit = h .bit }
+abbrev pub withVectorWord : Host → ℕ → Host
+withVectorWord h word =
+    record { service = h .service; busy = h .busy; subsystem = h .subsystem; defect = h .defect; vectorword = word; bitword = h .bitword }
 
-abbrev pub withBit : Host → ℕ → Host
-withBit h word =
-    record { service = h .service; busy = h .busy; subsystem = h .subsystem; fault = h .fault; vector = h .vector; bit = word }
+abbrev pub withBitWord : Host → ℕ → Host
+withBitWord h word =
+    record { service = h .service; busy = h .busy; subsystem = h .subsystem; defect = h .defect; vectorword = h .vectorword; bitword = word }
 
 abbrev pub selftestCleared : State → State
 selftestCleared s =

@@ -34,7 +34,7 @@ unfoldable pub settledStatus : State → ℕ → ℕ
 settledStatus s word =
     cond (isExempt (s .setup .address) word) (s .held .status .0)
     (withIf (not (isLegal (s .setup) word)) MessageError
-    (withIf (s .host .fault && not (s .held .inhibit)) Terminal
+    (withIf (s .host .defect && not (s .held .inhibit)) Terminal
     (withIf (s .host .subsystem) Subsystem (withIf (s .host .busy) Busy (withIf (s .host .service) ServiceRequest (s .held .status .0))))))
 
 -- "word i of subaddress s at 32s + i"
@@ -56,8 +56,8 @@ tableWords transmit word =
 -- but for the bit."
 unfoldable pub modeWords : State → ℕ → Reply
 modeWords s word =
-    cond (eqb (codeOf word) 16) (oneWord (s .host .vector))
-    (cond (eqb (codeOf word) 18) (oneWord (s .held .command .0)) (cond (eqb (codeOf word) 19) (oneWord (s .host .bit)) noWords))
+    cond (eqb (codeOf word) 16) (oneWord (s .host .vectorword))
+    (cond (eqb (codeOf word) 18) (oneWord (s .held .command .0)) (cond (eqb (codeOf word) 19) (oneWord (s .host .bitword)) noWords))
 
 -- "Legal transmit, no mode command: status and the words of the transmit table from the first place of the subaddress, status alone if
 -- busy."

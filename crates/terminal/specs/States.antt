@@ -25,7 +25,7 @@ abbrev pub freshHeld : ℕ → Held
 freshHeld address = record {
   status = record { 0 = statusOf address 0 };
   command = record { 0 = 0 };
-  sync = 0;
+  syncword = 0;
   selftest = false;
   inhibit = false;
   shut = false ∷ false ∷ [];
@@ -33,7 +33,7 @@ freshHeld address = record {
 
 -- "host flags off, vector and BIT words 0"
 abbrev pub freshHost : Host
-freshHost = record { service = false; busy = false; subsystem = false; fault = false; vector = 0; bit = 0 }
+freshHost = record { service = false; busy = false; subsystem = false; defect = false; vectorword = 0; bitword = 0 }
 
 -- "Fresh: .., no message, no sending but that of code 8's own answer. Set-up gives it with host flags off, vector and BIT words 0, last time 0."
 abbrev pub freshOf : Setup → Terminal

@@ -102,8 +102,8 @@ impl Terminal {
         let service = with_if(stored, Flag::ServiceRequest, host.service);
         let busy = with_if(service, Flag::Busy, host.busy);
         let subsystem = with_if(busy, Flag::Subsystem, host.subsystem);
-        let fault = with_if(subsystem, Flag::Terminal, host.fault & !self.held.inhibit);
-        with_if(fault, Flag::MessageError, !legal)
+        let terminal = with_if(subsystem, Flag::Terminal, host.defect & !self.held.inhibit);
+        with_if(terminal, Flag::MessageError, !legal)
     }
 
     // Gives the data word that a legal mode command asks for.
@@ -112,13 +112,13 @@ impl Terminal {
     {
         let code = command.count();
         if code == 16 {
-            return Reply::one(self.host.vector);
+            return Reply::one(self.host.vectorword);
         }
         if code == 18 {
             return Reply::one(self.held.command.0);
         }
         if code == 19 {
-            return Reply::one(self.host.bit);
+            return Reply::one(self.host.bitword);
         }
         Reply::none()
     }

@@ -3,7 +3,7 @@
 ghost use mathlib.Core.Path.{_≡_};
 ghost use Rattle.terminal.specs.Commands.{isLegal};
 ghost use Rattle.terminal.specs.Settling.{otherBus};
-ghost use Rattle.terminal.specs.Effects.{withStatus, withCommand, withSync, withSelftest, withInhibit, withShut, effectOf, heldAfter};
+ghost use Rattle.terminal.specs.Effects.{withStatus, withCommand, withSyncWord, withSelftest, withInhibit, withShut, effectOf, heldAfter};
 ghost use Rattle.terminal.specs.Rules.{notedStatus, notedCommand};
 use crate::commands::is_exempt;
 use crate::states::Held;
@@ -40,11 +40,11 @@ impl Held {
     }
 
     // With another sync word.
-    fn with_sync(self, word: u16) -> Held
-        ensures held { λ r. ⌜ r ≡ withSync self word ⌝ }
+    fn with_sync_word(self, word: u16) -> Held
+        ensures held { λ r. ⌜ r ≡ withSyncWord self word ⌝ }
     {
         let mut next = self;
-        next.sync = word;
+        next.syncword = word;
         next
     }
 
@@ -82,14 +82,14 @@ impl Held {
         ensures held { λ r. ⌜ r ≡ effectOf own self code bus word ⌝ }
     {
         match code {
-            1 => self.with_sync(0),
+            1 => self.with_sync_word(0),
             3 => self.with_selftest(true),
             4 => self.with_shut(other_bus(bus), true),
             5 => self.with_shut(other_bus(bus), false),
             6 => self.with_inhibit(true),
             7 => self.with_inhibit(false),
             8 => Held::fresh(own),
-            17 => self.with_sync(word),
+            17 => self.with_sync_word(word),
             _ => self,
         }
     }

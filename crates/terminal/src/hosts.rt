@@ -1,7 +1,7 @@
 // Host calls, host reads and the next moment (01 The terminal). Meaning: specs/Events.antt. Refusals: none.
 ghost use mathlib.Core.Path.{_≡_};
 ghost use Rattle.terminal.specs.Settling.{isShut};
-ghost use Rattle.terminal.specs.Events.{withHost, withService, withBusy, withSubsystem, withFault, withVector, withBit, selftestCleared, restartedOf, nextMomentOf};
+ghost use Rattle.terminal.specs.Events.{withHost, withService, withBusy, withSubsystem, withTerminalFault, withVectorWord, withBitWord, selftestCleared, restartedOf, nextMomentOf};
 use crate::states::Held;
 use crate::states::Message;
 use crate::states::Sending;
@@ -54,31 +54,31 @@ impl Terminal {
 
     // Gives the terminal with the host's terminal fault flag on or off.
     // Tables: none. Refusals: none.
-    pub fn set_fault(self, on: bool) -> Terminal
-        ensures terminal { λ r. ⌜ r ≡ withHost self (withFault (self .host) on) ⌝ }
+    pub fn set_terminal_fault(self, on: bool) -> Terminal
+        ensures terminal { λ r. ⌜ r ≡ withHost self (withTerminalFault (self .host) on) ⌝ }
     {
         let mut next = self;
-        next.host.fault = on;
+        next.host.defect = on;
         next
     }
 
     // Gives the terminal with another vector word.
     // Tables: none. Refusals: none.
-    pub fn set_vector(self, word: u16) -> Terminal
-        ensures terminal { λ r. ⌜ r ≡ withHost self (withVector (self .host) word) ⌝ }
+    pub fn set_vector_word(self, word: u16) -> Terminal
+        ensures terminal { λ r. ⌜ r ≡ withHost self (withVectorWord (self .host) word) ⌝ }
     {
         let mut next = self;
-        next.host.vector = word;
+        next.host.vectorword = word;
         next
     }
 
     // Gives the terminal with another BIT word.
     // Tables: none. Refusals: none.
-    pub fn set_bit(self, word: u16) -> Terminal
-        ensures terminal { λ r. ⌜ r ≡ withHost self (withBit (self .host) word) ⌝ }
+    pub fn set_bit_word(self, word: u16) -> Terminal
+        ensures terminal { λ r. ⌜ r ≡ withHost self (withBitWord (self .host) word) ⌝ }
     {
         let mut next = self;
-        next.host.bit = word;
+        next.host.bitword = word;
         next
     }
 
@@ -126,9 +126,9 @@ impl Terminal {
     // Gives the sync word.
     // Tables: none. Refusals: none.
     pub fn sync_word(self) -> u16
-        ensures word { λ r. ⌜ r ≡ self .held .sync ⌝ }
+        ensures word { λ r. ⌜ r ≡ self .held .syncword ⌝ }
     {
-        self.held.sync
+        self.held.syncword
     }
 
     // Says whether the self-test request is set.

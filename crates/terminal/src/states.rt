@@ -13,14 +13,15 @@ pub struct Setup {
     pub transmit: [u32; 32],
 }
 
-// What the host sets: "the flags (service request, busy, subsystem, terminal fault), vector and BIT words".
+// What the host sets: "the flags (service request, busy, subsystem, terminal fault), vector and BIT words". The terminal fault is a defect of
+// the card and no faulty message.
 pub struct Host {
     pub service: bool,
     pub busy: bool,
     pub subsystem: bool,
-    pub fault: bool,
-    pub vector: u16,
-    pub bit: u16,
+    pub defect: bool,
+    pub vectorword: u16,
+    pub bitword: u16,
 }
 
 // What a restart makes fresh: stored status, last command, sync word, self-test request, terminal flag inhibited, and for each bus
@@ -28,7 +29,7 @@ pub struct Host {
 pub struct Held {
     pub status: StatusWord,
     pub command: CommandWord,
-    pub sync: u16,
+    pub syncword: u16,
     pub selftest: bool,
     pub inhibit: bool,
     pub shut: [bool; 2],
@@ -118,7 +119,7 @@ impl Held {
         Held {
             status: StatusWord::build(address, 0),
             command: CommandWord(0),
-            sync: 0,
+            syncword: 0,
             selftest: false,
             inhibit: false,
             shut: [false; 2],
@@ -143,9 +144,9 @@ impl Terminal {
             service: false,
             busy: false,
             subsystem: false,
-            fault: false,
-            vector: 0,
-            bit: 0,
+            defect: false,
+            vectorword: 0,
+            bitword: 0,
         };
         let held = Held::fresh(setup.address);
         let message = Message::none();

@@ -5,8 +5,8 @@ use borrow.Author.Needs.{needs}
 use Rattle.terminal.proofs.states.Held.effect.Statement.{statement}
 use Rattle.terminal.proofs.states.Held.effect.Tie as tie
 
-with-sync-requires : tie.Need-with-sync-requires
-with-sync-requires c κs = search needs
+with-sync-word-requires : tie.Need-with-sync-word-requires
+with-sync-word-requires c κs = search needs
 
 with-selftest-requires : tie.Need-with-selftest-requires
 with-selftest-requires c κs = search needs
@@ -32,12 +32,12 @@ with-inhibit-requires-2 c κs = search needs
 fresh-requires : tie.Need-fresh-requires
 fresh-requires c κs = search needs
 
-with-sync-requires-2 : tie.Need-with-sync-requires-2
-with-sync-requires-2 c κs = search needs
+with-sync-word-requires-2 : tie.Need-with-sync-word-requires-2
+with-sync-word-requires-2 c κs = search needs
 
 returns : tie.Need-returns
 unfolding effectOf
-returns c = rw (c .before .match .keys1, c .with-sync .ensures)
+returns c = rw (c .before .match .keys1, c .with-sync-word .ensures)
 
 returns-2 : tie.Need-returns-2
 unfolding effectOf
@@ -65,7 +65,7 @@ returns-7 c = rw (c .before .match .keys7, c .fresh .ensures)
 
 returns-8 : tie.Need-returns-8
 unfolding effectOf
-returns-8 c = rw (c .before .match .keys8, c .with-sync2 .ensures)
+returns-8 c = rw (c .before .match .keys8, c .with-sync-word2 .ensures)
 
 returns-9 : tie.Need-returns-9
 unfolding effectOf
@@ -77,7 +77,7 @@ pub effect-spec : {M : Type 1} → statement M
 effect-spec =
     tie.close
     (tie.spec
-    with-sync-requires
+    with-sync-word-requires
     with-selftest-requires
     other-bus-requires
     with-shut-requires
@@ -86,7 +86,7 @@ effect-spec =
     with-inhibit-requires
     with-inhibit-requires-2
     fresh-requires
-    with-sync-requires-2
+    with-sync-word-requires-2
     returns
     returns-2
     returns-3
