@@ -1,5 +1,6 @@
 // A course of calls from bytes, played on one terminal: the bench times it and holds its sum to plain C's (bench/course.c). Nothing of the card
-// calls it. Proved: it is safe and ends for any bytes.
+// calls it. Proved: it is safe and ends for any bytes, and leaves them as they are, to which their type holds it too. Refusals: none.
+ghost use mathlib.Core.Path.{_≡_};
 use records::Read;
 use records::WordRecord;
 use records::read_record;
@@ -138,8 +139,11 @@ fn play(calls: &[u8], receive: &mut [u16; 1024], transmit: &mut [u16; 1024]) -> 
 }
 
 // Gives the sum of the course on a terminal of address 5 and tables of zeros.
+// Tables: calls is only read. Refusals: none.
 #[no_mangle]
-pub extern "C" fn course_play(calls: &[u8]) -> u64 {
+pub extern "C" fn course_play(calls: &[u8]) -> u64
+    ensures calls { λ _. ⌜ now (calls .exit) ≡ now (calls .entry) ⌝ }
+{
     let mut receive = [0u16; 1024];
     let mut transmit = [0u16; 1024];
     play(calls, &mut receive, &mut transmit)

@@ -32,7 +32,7 @@ noted-shut own h word =
     let first : notedStatus own h word .shut ≡ h .shut = cond-cases same (isExempt own word) (λ exempt. refl) (λ other. refl) in
     cond-cases same (isExempt own word && eqb (codeOf word) 18) (λ last. first) (λ other. first)
 
-first-counts : (word : ℕ) → isCounting (firstPhase word) ≡ true
+pub first-counts : (word : ℕ) → isCounting (firstPhase word) ≡ true
 unfolding firstPhase
 first-counts word =
     let counts : Phase → Type 0 = λ p. isCounting p ≡ true in

@@ -2,13 +2,16 @@ pub mod Tests
 pub mod Steps
 pub mod Phases
 pub mod Passing
+pub mod Moving
 pub mod Marks
+pub mod Givens
 pub mod Times
 pub mod Ways
 pub mod Idle
 pub mod Later
 pub mod Carrying
 pub mod Begun
+pub mod Faults
 pub mod Answered
 pub mod Standing
 pub mod Wiping
@@ -16,6 +19,7 @@ pub mod Statuses
 pub mod Holdings
 pub mod Waitings
 pub mod Reached
+pub mod Silenced
 pub mod Pasts
 pub mod Replacing
 pub mod Witnessed

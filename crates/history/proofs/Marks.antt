@@ -9,6 +9,7 @@ use Rattle.terminal.specs.Events.{passedOf, happensOf}
 use Rattle.terminal.specs.declared.states.Message.{Message}
 use Rattle.terminal.specs.declared.states.Terminal.{Terminal as State}
 use Rattle.terminal.specs.declared.events.Event.the-variants.{Mark, Word}
+use Rattle.history.specs.States.{isUnderWayOn}
 use Rattle.history.specs.Demands.{AsAMark, AsAMarkOnceSettled}
 use Rattle.history.proofs.Tests.{cond-same}
 use Rattle.history.proofs.Passing.{passed-own, passed-message}
@@ -33,11 +34,11 @@ as-a-mark-once-settled s r receive transmit ok foreign off =
     let s1 : State = passedOf s (r .time .0) transmit in
     let foreign1 : isOwn (s1 .setup .address) r ≡ false =
     passed-own s (r .time .0) transmit r ∙ foreign in (
-      rw (accepted s (Word r) receive transmit ok, accepted s (Mark (r .time)) receive transmit ok-mark, passed-over s1 r foreign1 off, cuts-nothing s1 r foreign1),
+      rw (accepted s (Word r) receive transmit ok, accepted s (Mark (r .time)) receive transmit ok-mark, passed-over s1 r foreign1 (unfold isOn in off), cuts-nothing s1 r foreign1),
       accepted-table s (Word r) receive transmit ok ∙ sym (accepted-table s (Mark (r .time)) receive transmit ok-mark),
     )
 
 pub as-a-mark : AsAMark
 as-a-mark s r receive transmit ok foreign off =
     as-a-mark-once-settled s r receive transmit ok foreign
-    (passed-message (λ (m : Message). isOn m (r .bus) ≡ false) (unfold isOn in refl) s (r .time .0) transmit off)
+    (passed-message (λ (m : Message). isUnderWayOn m (r .bus) ≡ false) refl s (r .time .0) transmit off)

@@ -1,11 +1,11 @@
 -- Rules 1 and 2: what they leave as it is, and what they end. Assumes nothing.
 use mathlib.Core.Path.{_≡_, refl}
 use Prim.Native.Nat.{ℕ}
-use mathlib.Core.Bool.{true, false}
+use mathlib.Core.Bool.{Bool, true, false, cond}
 use mathlib.Core.List.{List}
 use Rattle.records.specs.declared.forms.WordRecord.{WordRecord}
 use Rattle.terminal.specs.States.{noMessage}
-use Rattle.terminal.specs.Commands.{isOwn, isExempt}
+use Rattle.terminal.specs.Commands.{isOwn}
 use Rattle.terminal.specs.Messages.{isUnderWay, awaitsData, isDue, isLate}
 use Rattle.terminal.specs.Rules.{settledOf, rule1, faultyOf, rule2}
 use Rattle.terminal.specs.Events.{atTime, passedOf}
@@ -43,12 +43,15 @@ unfolding passedOf rule2 faultyOf
 passed-sending s t transmit =
     cond-cases (λ (x : State). x .sending ≡ rule1 s t transmit .sending) (isLate (rule1 s t transmit .message) t) (λ late. refl) (λ in-time. refl)
 
+shut-either : (shut : List Bool) (b : Bool) (x y : Held) → x .shut ≡ shut → y .shut ≡ shut → cond b x y .shut ≡ shut
+shut-either shut b x y p q = cond-cases (λ (h : Held). h .shut ≡ shut) b (λ e. p) (λ e. q)
+
 pub passed-shut : (s : State) (t : ℕ) (transmit : List ℕ) → passedOf s t transmit .held .shut ≡ rule1 s t transmit .held .shut
 unfolding passedOf rule2 faultyOf
 passed-shut s t transmit =
     let x : State = rule1 s t transmit in
     cond-cases (λ (y : State). y .held .shut ≡ x .held .shut) (isLate (x .message) t)
-    (λ late. cond-cases (λ (h : Held). h .shut ≡ x .held .shut) (isExempt (x .setup .address) (x .message .command .0)) (λ exempt. refl) (λ other. refl))
+    (λ late. search shut-either)
     (λ in-time. refl)
 
 -- where nothing is due and nothing late they set the time alone

@@ -15,7 +15,7 @@ use Rattle.terminal.specs.Commands.{isOwn}
 use Rattle.terminal.specs.Messages.{isUnderWay, isOn, awaitsData, isDue, isLate, isNextData, isSecond, isStatusFrom}
 use Rattle.terminal.specs.Settling.{sendingOf}
 use Rattle.terminal.specs.Rules.{replyNow, withMessage, settledOf, rule1, faultyOf, rule2, rule3, rule4, stagedOf, movedOf, nextData, nextWord, rule5, rules3to6}
-use Rattle.terminal.specs.Events.{eventOf, happensOf, setUpRefusal, nothingLegal, setUpOf, timeOf, isInRange, atTime, passedOf, takenOf, withHost, selftestCleared, restartedOf}
+use Rattle.terminal.specs.Events.{eventOf, happensOf, setUpRefusal, setUpOf, timeOf, isInRange, atTime, passedOf, takenOf, withHost, selftestCleared, restartedOf}
 use Rattle.terminal.specs.declared.states.Host.{Host}
 use Rattle.terminal.specs.declared.states.Setup.{Setup}
 use Rattle.terminal.specs.declared.states.Phase.{Phase}
@@ -25,7 +25,6 @@ use Rattle.terminal.specs.declared.states.Terminal.{Terminal as State}
 use Rattle.terminal.specs.declared.events.Event.{Event}
 use Rattle.terminal.specs.declared.events.Event.the-variants.{Mark, Word}
 use Rattle.terminal.specs.declared.events.Happened.{Happened}
-use Rattle.terminal.specs.declared.setups.SetUp.{SetUp}
 use Rattle.terminal.proofs.Counts.{reply-most, due-most}
 use Rattle.history.specs.Calls.{Call, setUp, event, host, clearSelftest, restart, isAccepted, isSetUp, hostOf, step, run}
 use Rattle.history.specs.Demands.{Reachable}
@@ -54,12 +53,10 @@ accepted-sound setup =
     P : ℕ → Type 0
     P n = eqb n 0 ≡ true → Sound (freshOf setup)
 
--- accepted or refused
-set-up-sound : (address : ℕ) (receive transmit : List ℕ) → Sound (setUpOf address receive transmit .terminal)
+-- and so is what it gives
+set-up-sound : (address : ℕ) (receive transmit : List ℕ) → isSetUp address receive transmit ≡ true → Sound (setUpOf address receive transmit .terminal)
 unfolding setUpOf
-set-up-sound address receive transmit =
-    cond-cases (λ (x : SetUp). Sound (x .terminal)) (isSetUp address receive transmit) (accepted-sound _)
-    (λ e. fresh-sound nothingLegal (omega arith) refl refl)
+set-up-sound address receive transmit ok = rw ok (accepted-sound (record { address = address; receive = receive; transmit = transmit }) ok)
 
 -- ---- host calls, and how a message goes on or ends
 
@@ -173,7 +170,7 @@ event-sound s h (Word r) transmit ranged later =
 step-sound : (s : State) → Sound s → (k : Call) → Sound (step s k)
 unfolding step eventOf happensOf
 step-sound s h (setUp address receive transmit) =
-    cond-cases Sound (isSetUp address receive transmit) (λ e. set-up-sound address receive transmit) (λ e. h)
+    cond-cases Sound (isSetUp address receive transmit) (set-up-sound address receive transmit) (λ e. h)
 step-sound s h (event e receive transmit) =
     cond-cases (λ (x : Happened). Sound (x .terminal)) (isAccepted s e receive transmit)
     (λ ok. event-sound s h e transmit (shown s e receive transmit ok .ranged) (not-earlier s e receive transmit ok))
@@ -190,4 +187,4 @@ run-sound s h (k ∷ ks) = run-sound (step s k) (step-sound s h k) ks
 
 -- from a set-up on, after any calls at all
 pub reachable : Reachable
-reachable address receive transmit past = run-sound _ (set-up-sound address receive transmit) past
+reachable past = run-sound _ (set-up-sound (past .address) (past .receive) (past .transmit) (past .accepted)) (past .calls)

@@ -8,10 +8,10 @@ use borrow.Author.Tests.{eqb-true}
 use Rattle.words.specs.Words.{addressOf, codeOf, isTransmit, isMode, awaitedOf}
 use Rattle.records.specs.declared.forms.WordRecord.{WordRecord}
 use Rattle.terminal.specs.Commands.{isOwn, isExempt, isLegal}
-use Rattle.terminal.specs.Messages.{isUnderWay, isOn, awaitsData, isDue, isLate, isSending, isNextData, isSecond, isStatusFrom}
+use Rattle.terminal.specs.Messages.{isUnderWay, isOn, awaitsData, isDue, isLate, isNextData, isSecond, isStatusFrom}
 use Rattle.terminal.specs.Settling.{settledStatus}
 use Rattle.terminal.specs.Effects.{withStatus, effectOf, heldAfter}
-use Rattle.terminal.specs.Rules.{withMessage, statusNow, settledOf, rule1, faultyOf, rule2, notedStatus, notedCommand, begunOf, rule4, stagedOf, movedOf, nextData, nextWord, rule5, rules3to6}
+use Rattle.terminal.specs.Rules.{withMessage, statusNow, settledOf, rule1, faultyOf, rule2, rule3, notedStatus, notedCommand, begunOf, rule4, stagedOf, movedOf, nextData, nextWord, rule5, rules3to6}
 use Rattle.terminal.specs.Events.{timeOf, passedOf, takenOf}
 use Rattle.terminal.specs.declared.states.Held.{Held}
 use Rattle.terminal.specs.declared.states.Phase.{Phase}
@@ -22,8 +22,8 @@ use Rattle.terminal.specs.declared.states.Terminal.{Terminal as State}
 use Rattle.terminal.specs.declared.events.Event.{Event}
 use Rattle.terminal.specs.declared.events.Event.the-variants.{Mark, Word}
 use Rattle.history.specs.Calls.{Call, setUp, event, host, clearSelftest, restart, isAccepted, isSetUp, isRefused, step, run}
-use Rattle.history.specs.Courses.{leavesFault, AllLeaveFault}
-use Rattle.history.proofs.Tests.{false≢, false≢, cond-cases, and-left, and-right, or-cases}
+use Rattle.history.specs.Courses.{ignores, isIgnored, leavesStatus, AllLeaveStatus}
+use Rattle.history.proofs.Tests.{false≢, cond-cases, and-left, and-right, or-cases}
 use Rattle.history.proofs.Phases.{due-under-way, late-under-way}
 use Rattle.history.proofs.Steps.{stepped, refused-stays, refusal-keeps}
 
@@ -131,36 +131,39 @@ module _ {setup : Setup} {status : ℕ} where
         passing = λ on. rw (← st .same) exempt;
       }
 
-  -- a record that is no own command, or is an exempt one
-  rules-stand : (s : State) (r : WordRecord) → Standing setup status s → (not (isOwn (s .setup .address) r) || isExempt (s .setup .address) (r .word)) ≡ true
+  -- a record that is ignored, or no own command, or an exempt one
+  rules-stand : (s : State) (r : WordRecord) → Standing setup status s
+      → (rule3 s r ≡ false → (not (isOwn (s .setup .address) r) || isExempt (s .setup .address) (r .word)) ≡ true)
       → Standing setup status (rules3to6 s r)
   unfolding rules3to6 rule5
   rules-stand s r st outside =
-      cond-cases (Standing setup status) (isSending (s .sending) (r .bus) (r .time .0)) (λ sending. st)
+      cond-cases (Standing setup status) (rule3 s r) (λ sending. st)
       (λ quiet.
       cond-cases (Standing setup status) (isOwn (s .setup .address) r)
-      (λ own. begun-stands s r st (rw own at outside))
+      (λ own. begun-stands s r st (rw own at (outside quiet)))
       (λ foreign.
       cond-cases (Standing setup status) (isOn (s .message) (r .bus))
       (λ on. next-stands (s .message .phase) s r st (unfold isOn in search (and-left, on)))
       (λ off. st)))
 
   pub taken-stands : (s : State) (e : Event) (receive transmit : List ℕ) → Standing setup status s
-      → leavesFault (setup .address) (event e receive transmit) ≡ true
+      → (ignores s e ≡ false → leavesStatus (setup .address) (event e receive transmit) ≡ true)
       → Standing setup status (takenOf s e)
   taken-stands s (Mark t) receive transmit st outside = st
-  taken-stands s (Word r) receive transmit st outside = rules-stand s r st (rw (st .same) outside)
+  taken-stands s (Word r) receive transmit st outside = rules-stand s r st (λ quiet. rw (st .same) (outside quiet))
 
   -- ---- a call, and any calls
 
-  pub call-stands : (s : State) (k : Call) → Standing setup status s → (isRefused s k || leavesFault (s .setup .address) k) ≡ true → Standing setup status (step s k)
+  pub call-stands : (s : State) (k : Call) → Standing setup status s
+      → (isRefused s k || (isIgnored s k || leavesStatus (s .setup .address) k)) ≡ true
+      → Standing setup status (step s k)
   unfolding step
   call-stands s (event e receive transmit) st outside = go (isAccepted s e receive transmit) refl
     where
       go : (b : Bool) → isAccepted s e receive transmit ≡ b → Standing setup status (step s (event e receive transmit))
       go true ok =
           rw (stepped s e receive transmit ok)
-          (taken-stands (passedOf s (timeOf e) transmit) e receive transmit (passed-stands s (timeOf e) transmit st) (rw (← st .same) (rw ok at outside)))
+          (taken-stands (passedOf s (timeOf e) transmit) e receive transmit (passed-stands s (timeOf e) transmit st) (λ quiet. rw (← st .same) (rw (ok, quiet) at outside)))
       go false bad = rw (refused-stays s e receive transmit bad) st
   call-stands s (setUp address receive transmit) st outside =
       rw (refusal-keeps s (setUp address receive transmit) (or-cases (not (isSetUp address receive transmit)) false outside (λ h. h) (λ h. false≢ h))) st
@@ -168,7 +171,7 @@ module _ {setup : Setup} {status : ℕ} where
   call-stands s clearSelftest st outside = record { same = st .same; holds = st .holds; passing = st .passing }
   call-stands s restart st outside = false≢ outside
 
-  pub run-stands : (s : State) (ks : List Call) → Standing setup status s → AllLeaveFault s ks → Standing setup status (run s ks)
+  pub run-stands : (s : State) (ks : List Call) → Standing setup status s → AllLeaveStatus s ks → Standing setup status (run s ks)
   unfolding run
   run-stands s [] st outside = st
   run-stands s (k ∷ ks) st outside = run-stands (step s k) ks (call-stands s k st (outside .0)) (outside .1)

@@ -17,7 +17,7 @@ use Rattle.terminal.specs.declared.events.Event.the-variants.{Mark, Word}
 use Rattle.terminal.specs.declared.events.Happened.{Happened}
 use Rattle.history.specs.Calls.{Call, setUp, event, host, clearSelftest, restart, isAccepted, isSetUp, isRefused, step, run}
 use Rattle.history.specs.Demands.{ShowsNumberAlone, RefusalsKeep}
-use Rattle.history.proofs.Tests.{false≢, false≢, and-left}
+use Rattle.history.proofs.Tests.{false≢, and-left}
 
 -- ---- an event
 module _ (s : State) (e : Event) (receive transmit : List ℕ) where

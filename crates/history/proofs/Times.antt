@@ -1,7 +1,7 @@
 -- A message on its way to its answer: what calls that may come leave as it is, and how a data word moves it on. Assumes nothing.
 use mathlib.Core.Path.{_≡_, refl, ap, _∙_}
 use Prim.Native.Nat.{ℕ, _+_, _-_, _≤_}
-use mathlib.Core.Bool.{Bool, true, false, _&&_}
+use mathlib.Core.Bool.{Bool, true, false}
 use mathlib.Core.List.{List, _∷_}
 use native.Mathlib.Omega.{arith}
 use lib.Dec.{leb}
@@ -9,48 +9,22 @@ use borrow.Author.Tests.{leb-true}
 use Rattle.words.specs.Words.{spacingMost, isSpaced}
 use Rattle.words.specs.declared.times.Moment.{Moment}
 use Rattle.records.specs.declared.forms.WordRecord.{WordRecord}
-use Rattle.terminal.specs.Commands.{isOwn}
-use Rattle.terminal.specs.Messages.{isOn, awaitsData, isSending, isNextData, isSecond, isStatusFrom}
-use Rattle.terminal.specs.Rules.{rule4, nextData, nextWord, rule5, rules3to6, faultyOf}
+use Rattle.terminal.specs.Rules.{rule4, rules3to6, faultyOf}
 use Rattle.terminal.specs.Events.{timeOf, passedOf, takenOf}
-use Rattle.terminal.specs.declared.states.Phase.{Phase}
-use Rattle.terminal.specs.declared.states.Phase.the-variants.{Idle, First, Pledged, Data}
 use Rattle.terminal.specs.declared.states.Terminal.{Terminal as State}
 use Rattle.terminal.specs.declared.events.Event.{Event}
 use Rattle.terminal.specs.declared.events.Event.the-variants.{Mark, Word}
 use Rattle.history.specs.Calls.{Call, setUp, event, host, clearSelftest, restart, isAccepted, isRefused, step}
 use Rattle.history.specs.Courses.{isHarmless, mayCome, Course, between, word}
-use Rattle.history.proofs.Tests.{false≢, false≢, cond-cases, and-right, or-cases}
+use Rattle.history.proofs.Tests.{false≢, and-right, or-cases}
 use Rattle.history.proofs.Steps.{stepped, refused-stays, refusal-keeps, not-earlier}
+use Rattle.history.proofs.Moving.{rules-keep}
 
 -- ---- the time of the last event
 
-next-time : (p : Phase) (s : State) (r : WordRecord) → nextWord p s r .time ≡ s .time
-unfolding nextWord nextData faultyOf
-next-time p s r = go p
-  where
-    same : State → Type 0
-    same x = x .time ≡ s .time
-
-    data-time : nextData s r .time ≡ s .time
-    data-time = cond-cases same (awaitsData (s .message) && isNextData (s .message) r) (λ good. refl) (λ bad. refl)
-
-    go : (p : Phase) → nextWord p s r .time ≡ s .time
-    go Idle = refl
-    go Data = data-time
-    go First = cond-cases same (isSecond (s .setup .address) (s .message) r) (λ second. refl) (λ other. data-time)
-    go (Pledged address) = cond-cases same (isStatusFrom address r) (λ status. refl) (λ other. refl)
-
 rules-time : (s : State) (r : WordRecord) → rules3to6 s r .time ≡ s .time
-unfolding rules3to6 rule4 rule5
-rules-time s r =
-    cond-cases same (isSending (s .sending) (r .bus) (r .time .0)) (λ sending. refl)
-    (λ quiet.
-    cond-cases same (isOwn (s .setup .address) r) (λ own. refl)
-    (λ foreign. cond-cases same (isOn (s .message) (r .bus)) (λ on. next-time (s .message .phase) s r) (λ off. refl)))
-  where
-    same : State → Type 0
-    same x = x .time ≡ s .time
+unfolding faultyOf rule4
+rules-time = rules-keep (λ (x : State). x .time) (λ x. refl) (λ x m. refl) (λ x w. refl)
 
 -- an accepted event sets it
 pub event-time : (s : State) (e : Event) (receive transmit : List ℕ) → isAccepted s e receive transmit ≡ true

@@ -2,15 +2,18 @@
 use mathlib.Core.Path.{refl}
 use lib.Dec.{lit≤}
 use Rattle.terminal.specs.Events.{setUpRefusal, setUpOf}
+use Rattle.terminal.specs.Cards.{sameWords, isAnswer}
 use Rattle.terminal.proofs.Bench.{whole}
 use Rattle.history.specs.Calls.{step, run}
 use Rattle.history.specs.Courses.{over, between, word}
-use Rattle.history.specs.Witnesses.{hears, allLegal, benchAfter, past, asked, noise, sent, given, first, answersTo, answersAt1660, allLost, itsData, opening, message, losses, atAll, eventLost}
-use Rattle.history.specs.Demands.{Witness, Needed}
+use Rattle.history.specs.Witnesses.{hears, allLegal, benchAfter, past, asked, noise, sent, given, first, answersTo, answersAt1660, none, itsData, opening, message, losses, atAll, eventLost}
+use Rattle.history.specs.Faults.{asking, broken, aftermath, question, meanwhile, isMarked, fault, wipes, marks, each, reports, reportsAt3260, questioned, untold, markedAtAll, eventUntold}
+use Rattle.history.specs.Demands.{Witness, Needed, MarkWitness, MarkNeeded}
 
 -- every definition that a history runs through
 unfoldable histories : Unit {0}
-unfolding whole setUpRefusal setUpOf step run hears allLegal benchAfter past asked noise sent given first answersTo answersAt1660 allLost itsData opening message losses atAll eventLost
+unfolding whole setUpRefusal setUpOf step run hears allLegal benchAfter past asked noise sent given first answersTo answersAt1660 none itsData opening message losses atAll eventLost
+    asking broken aftermath question meanwhile isMarked fault wipes marks each reports reportsAt3260 questioned untold markedAtAll eventUntold
 histories = tt
 
 -- the plain message is answered, and no message with a broken premise is
@@ -22,6 +25,7 @@ needed = (tt, tt, tt)
 pub witness : Witness
 unfolding histories
 witness = record {
+  set = refl;
   address = lit≤ tt;
   asks = record { accepted = refl; valid = refl; sync = refl; own = refl; quiet = refl; transmitter = refl };
   count = refl;
@@ -36,6 +40,30 @@ witness = record {
       (word (record { accepted = refl; valid = refl; sync = refl; on = refl; spaced = refl })
       (between refl (λ e. refl) (between refl (λ e. refl) (between refl (λ e. refl) (between refl (λ e. refl) over)))))))))));
   accepted = refl;
+  then = lit≤ tt;
+  answer = refl;
+}
+
+-- faults are marked and answered with, and with a broken premise they are not
+pub mark-needed : MarkNeeded
+unfolding histories
+mark-needed = (tt, tt, tt, tt, tt)
+
+-- the fault, each call after it, the question and its answer
+pub mark-witness : MarkWitness
+unfolding histories isAnswer sameWords
+mark-witness = record {
+  set = refl;
+  address = lit≤ tt;
+  accepted = refl;
+  marks = refl;
+  outside = refl;
+  all = (refl, (refl, (refl, (refl, (refl, (refl, (refl, (refl, (refl, (refl, (refl, (refl, tt))))))))))));
+  held = refl;
+  asks = record { accepted = refl; valid = refl; sync = refl; own = refl; quiet = refl; transmitter = refl };
+  exempt = refl;
+  runs = between refl (λ e. refl) over;
+  taken = refl;
   then = lit≤ tt;
   answer = refl;
 }

@@ -1,6 +1,7 @@
 -- Demand 3, "After any calls at all": the calls, and the terminal after a list of them. Assumes nothing.
+use mathlib.Core.Path.{_≡_}
 use Prim.Native.Nat.{ℕ}
-use mathlib.Core.Bool.{Bool, false, not, cond, _&&_}
+use mathlib.Core.Bool.{Bool, true, false, not, cond, _&&_}
 use mathlib.Core.List.{List, [], _∷_}
 use lib.Dec.{eqb}
 use lib.ListN.{length}
@@ -25,7 +26,7 @@ pub data Setting : Type 0 where
 
 -- The calls that give another terminal: set-up with any address and any two lists of masks; an event with any receive and any transmit table;
 -- "Host calls set the flags .., vector and BIT words, clear the self-test request, or restart." The reads give none. `Terminal::fresh`, which judges
--- no address, is no call here: `answered` holds of what it gives for an address up to 30.
+-- no address, is no call here: for an address up to 30 it gives what a set-up gives (`fresh-begins`), for one above `fresh-silent` holds.
 pub data Call : Type 0 where
   setUp : ℕ → List ℕ → List ℕ → Call
   event : Event → List ℕ → List ℕ → Call
@@ -59,7 +60,8 @@ hostOf h (terminalFault on) = withTerminalFault h on
 hostOf h (vectorWord word) = withVectorWord h word
 hostOf h (bitWord word) = withBitWord h word
 
--- A refused set-up hands back a terminal that its caller must not use (DECISIONS 18): here the terminal that there was goes on.
+-- A refused set-up hands back a terminal that never answers: a caller who takes it is in `refused-silent`'s case. Here the terminal that there was
+-- goes on.
 unfoldable pub step : State → Call → State
 step s (setUp address receive transmit) = cond (isSetUp address receive transmit) (setUpOf address receive transmit .terminal) s
 step s (event e receive transmit) = eventOf s e receive transmit .terminal
@@ -71,9 +73,18 @@ unfoldable pub run : State → List Call → State
 run s [] = s
 run s (k ∷ ks) = run (step s k) ks
 
--- "After any calls at all": the terminal that a set-up gives, then any list of calls.
-abbrev pub afterPast : ℕ → List ℕ → List ℕ → List Call → State
-afterPast address receive transmit past = run (setUpOf address receive transmit .terminal) past
+-- "After any calls at all": an accepted set-up, then any list of calls. Before the first accepted one there is no terminal but what a refused one
+-- gives, which never answers (`refused-silent`), or `Terminal::fresh`: up to address 30 that is a set-up's, above it never answers (`fresh-begins`,
+-- `fresh-silent`).
+pub record Past : Type 0 where
+  pub address : ℕ
+  pub receive : List ℕ
+  pub transmit : List ℕ
+  pub accepted : isSetUp address receive transmit ≡ true
+  pub calls : List Call
+
+abbrev pub afterPast : Past → State
+afterPast past = run (setUpOf (past .address) (past .receive) (past .transmit) .terminal) (past .calls)
 
 -- ---- what a call carries and brings
 

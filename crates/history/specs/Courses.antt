@@ -9,9 +9,10 @@ use Rattle.records.specs.declared.forms.WordRecord.{WordRecord}
 use Rattle.terminal.specs.Commands.{isValidRecord, isOwn, isExempt}
 use Rattle.terminal.specs.Messages.{isSending}
 use Rattle.terminal.specs.Settling.{isShut, noAnswer}
-use Rattle.terminal.specs.Rules.{rule1}
-use Rattle.terminal.specs.Events.{timeOf}
+use Rattle.terminal.specs.Rules.{rule1, rule3}
+use Rattle.terminal.specs.Events.{timeOf, passedOf}
 use Rattle.terminal.specs.declared.states.Terminal.{Terminal as State}
+use Rattle.terminal.specs.declared.events.Event.{Event}
 use Rattle.terminal.specs.declared.events.Event.the-variants.{Mark, Word}
 use Rattle.history.specs.Calls.{Call, setUp, event, host, clearSelftest, restart, isAccepted, isRefused, step, answerIn, setsUp, bringsOwn}
 
@@ -97,17 +98,30 @@ abbrev pub NoSetUp : State → List Call → Type 0
 NoSetUp s [] = Unit {0}
 NoSetUp s (k ∷ ks) = (setsUp k ≡ false) × NoSetUp (step s k) ks
 
--- ---- calls that leave a fault marked
+-- ---- calls that leave the stored status of a terminal at rest (`AtRest`)
 
--- Time marks, records that are no own command, the two exempt commands, host calls; no restart and no set-up (DECISIONS 25).
-abbrev pub leavesFault : ℕ → Call → Bool
-leavesFault own (setUp address receive transmit) = false
-leavesFault own (event (Mark t) receive transmit) = true
-leavesFault own (event (Word r) receive transmit) = not (isOwn own r) || isExempt own (r .word)
-leavesFault own (host setting) = true
-leavesFault own clearSelftest = true
-leavesFault own restart = false
+-- rule 3 ignores the record: so it does the terminal's own answer where its receiver hears it, whose status word looks like an own command
+abbrev pub ignores : State → Event → Bool
+ignores s (Mark t) = false
+ignores s (Word r) = rule3 s r
 
-abbrev pub AllLeaveFault : State → List Call → Type 0
-AllLeaveFault s [] = Unit {0}
-AllLeaveFault s (k ∷ ks) = ((isRefused s k || leavesFault (s .setup .address) k) ≡ true) × AllLeaveFault (step s k) ks
+abbrev pub isIgnored : State → Call → Bool
+isIgnored s (setUp address receive transmit) = false
+isIgnored s (event e receive transmit) = ignores (passedOf s (timeOf e) transmit) e
+isIgnored s (host setting) = false
+isIgnored s clearSelftest = false
+isIgnored s restart = false
+
+-- Time marks, records that are no own command, the two exempt commands, host calls; no restart and no set-up (DECISIONS 25). Where a message that is
+-- not exempt is under way they may settle it or make it faulty.
+abbrev pub leavesStatus : ℕ → Call → Bool
+leavesStatus own (setUp address receive transmit) = false
+leavesStatus own (event (Mark t) receive transmit) = true
+leavesStatus own (event (Word r) receive transmit) = not (isOwn own r) || isExempt own (r .word)
+leavesStatus own (host setting) = true
+leavesStatus own clearSelftest = true
+leavesStatus own restart = false
+
+abbrev pub AllLeaveStatus : State → List Call → Type 0
+AllLeaveStatus s [] = Unit {0}
+AllLeaveStatus s (k ∷ ks) = ((isRefused s k || (isIgnored s k || leavesStatus (s .setup .address) k)) ≡ true) × AllLeaveStatus (step s k) ks

@@ -1,6 +1,7 @@
--- THE FIRST FILE TO READ. Demand 3 of the user, clause by clause, and what stands beside it: no word on one bus wipes out a fault of the other,
--- refusals change nothing, what an own command does to what is under way, what can be reached, and a history that meets every premise. A
--- statement is a type; its proof has the name above it and stands in proofs/. `Calls`, `Courses`, `States` and `Witnesses` say the words. Assumes nothing.
+-- THE FIRST FILE TO READ. Demand 3 of the user, clause by clause, and what stands beside it: no word on one bus wipes out a fault of the other, nor
+-- anything else of the stored status; refusals change nothing, and what a refused set-up gives never answers; what an own command does to what is
+-- under way; what can be reached, and what every answer's status has; histories that meet every premise. A statement is a type; its proof has the
+-- name above it and stands in proofs/. `Calls`, `Courses`, `States`, `Witnesses` and `Faults` say the words. Assumes nothing.
 use mathlib.Core.Path.{_≡_}
 use Prim.Native.Nat.{ℕ, _+_, _≤_}
 use mathlib.Core.Bool.{true, false, cond, _&&_}
@@ -8,23 +9,26 @@ use mathlib.Core.List.{List, [], _∷_, _++_}
 use lib.Dec.{T}
 use lib.ListN.{length}
 use lib.Seq.{paste}
-use Rattle.words.specs.Words.{dueDistance, gapOf, wordsOf, hasFlag, withFlag, awaitedOf}
+use Rattle.words.specs.Words.{dueDistance, gapOf, addressOf, wordsOf, hasFlag, withFlag, hasNoOther, awaitedOf}
 use Rattle.words.specs.declared.statuses.Flag.the-variants.{MessageError}
 use Rattle.records.specs.declared.forms.WordRecord.{WordRecord}
-use Rattle.terminal.specs.States.{noSending}
+use Rattle.terminal.specs.States.{noSending, freshOf}
 use Rattle.terminal.specs.Commands.{isOwn, isExempt}
-use Rattle.terminal.specs.Messages.{isUnderWay, isOn, isSending}
+use Rattle.terminal.specs.Messages.{isUnderWay, isSending}
 use Rattle.terminal.specs.Settling.{otherBus, settledStatus, firstPlace, replyOf, storesData, noAnswer}
 use Rattle.terminal.specs.Rules.{begunOf, rule3}
-use Rattle.terminal.specs.Events.{timeOf, setUpRefusal, setUpOf, eventRefusal, passedOf, refusedOf, eventOf, eventReceive, withHost}
+use Rattle.terminal.specs.Events.{timeOf, setUpRefusal, nothingLegal, setUpOf, eventRefusal, passedOf, refusedOf, eventOf, eventReceive, withHost}
+use Rattle.terminal.specs.declared.states.Setup.{Setup}
 use Rattle.terminal.specs.declared.states.Terminal.{Terminal as State}
 use Rattle.terminal.specs.declared.answers.Answer.{Answer}
 use Rattle.terminal.specs.declared.events.Event.{Event}
 use Rattle.terminal.specs.declared.events.Event.the-variants.{Mark, Word}
-use Rattle.history.specs.Calls.{Call, setUp, event, host, clearSelftest, restart, isAccepted, isRefused, step, run, afterPast, answerIn, bringsOwn}
-use Rattle.history.specs.Courses.{Command, Course, Silent, NoOwn, NoSetUp, leavesFault, AllLeaveFault}
-use Rattle.history.specs.States.{marksFault, Sound}
-use Rattle.history.specs.Witnesses.{Met, allLost, answersAt1660, message, losses, eventLost}
+use Rattle.terminal.specs.declared.setups.SetUp.{SetUp}
+use Rattle.history.specs.Calls.{Call, setUp, event, host, clearSelftest, restart, isAccepted, isSetUp, isRefused, step, run, Past, afterPast, answerIn, bringsOwn}
+use Rattle.history.specs.Courses.{Command, Course, Silent, NoOwn, NoSetUp, leavesStatus, AllLeaveStatus}
+use Rattle.history.specs.States.{isUnderWayOn, marksFault, ComesToFault, AtRest, Sound}
+use Rattle.history.specs.Witnesses.{Met, answersAt1660, none, message, losses, eventLost}
+use Rattle.history.specs.Faults.{MarkMet, isMarked, each, marks, wipes, reportsAt3260, questioned, untold, eventUntold}
 
 -- ==== answered: "After any calls at all, take an accepted, valid command .. Then the first event accepted at or after the due time carries
 -- exactly one answer"
@@ -96,7 +100,7 @@ Answered = (s : State) → s .setup .address ≤ 30 → AnsweredFrom s
 
 -- answered-after-any-past: "After any calls at all"
 abbrev pub AnsweredAfterAnyPast : Type 0
-AnsweredAfterAnyPast = (address : ℕ) (receive transmit : List ℕ) (past : List Call) → AnsweredFrom (afterPast address receive transmit past)
+AnsweredAfterAnyPast = (past : Past) → AnsweredFrom (afterPast past)
 
 -- ==== as-a-mark: "And an accepted record that is no valid command to it or to all terminals, on a bus where no message of its own is under way,
 -- acts exactly as a time mark of that moment."
@@ -112,7 +116,7 @@ abbrev pub AsAMark : Type 0
 AsAMark =
     (s : State) (r : WordRecord) (receive transmit : List ℕ) → isAccepted s (Word r) receive transmit ≡ true
     → isOwn (s .setup .address) r ≡ false
-    → isOn (s .message) (r .bus) ≡ false
+    → isUnderWayOn (s .message) (r .bus) ≡ false
     → SameAsMark s r receive transmit
 
 -- as-a-mark-once-settled: none is, once what is due at that moment is settled and what is late is faulty
@@ -120,7 +124,7 @@ abbrev pub AsAMarkOnceSettled : Type 0
 AsAMarkOnceSettled =
     (s : State) (r : WordRecord) (receive transmit : List ℕ) → isAccepted s (Word r) receive transmit ≡ true
     → isOwn (s .setup .address) r ≡ false
-    → isOn (passedOf s (r .time .0) transmit .message) (r .bus) ≡ false
+    → isUnderWayOn (passedOf s (r .time .0) transmit .message) (r .bus) ≡ false
     → SameAsMark s r receive transmit
 
 -- ==== no-wipe: "What I fear most: a word on bus B wipes out a fault marked a moment before on bus A."
@@ -132,7 +136,7 @@ pub record Reports (a : Answer) (bus status : ℕ) : Type 0 where
   pub says : a .status .0 ≡ status
 
 -- the next transmit status word or transmit last command, on a bus whose transmitter is on and on which it is not sending, answers with that
--- status, whatever may come between
+-- status, with nothing more on its bus, no own command on the other, no restart and no set-up before the answer
 abbrev pub AnswersWith : State → ℕ → Type 0
 AnswersWith s status =
     (r : WordRecord) (receive transmit : List ℕ) → Command s r receive transmit
@@ -143,10 +147,12 @@ AnswersWith s status =
     → end + dueDistance ≤ timeOf e
     → Reports (eventOf (run (step s (event (Word r) receive transmit)) ks) e receive' transmit' .answer) (r .bus) status
 
--- a terminal that holds this status, with message error in it, and answers with it
-pub record Marked (s : State) (status : ℕ) : Type 0 where
+-- a terminal that holds this status and answers with it
+pub record Stands (s : State) (status : ℕ) : Type 0 where
   pub held : s .held .status .0 ≡ status
-  pub error : hasFlag MessageError status ≡ true
+  -- no call carries an answer with another
+  pub says : (k : Call) → answerIn s k .given ≡ true → answerIn s k .status .0 ≡ status
+  -- and the two exempt commands are answered
   pub answers : AnswersWith s status
 
 abbrev pub NoWipeFrom : State → Type 0
@@ -155,11 +161,12 @@ NoWipeFrom s =
     (e : Event) (receive transmit : List ℕ) → isAccepted s e receive transmit ≡ true
     → marksFault s e transmit ≡ true
     -- and is itself no own command that is not exempt (that one would write the status anew, rule 4);
-    → leavesFault (s .setup .address) (event e receive transmit) ≡ true
-    -- then any calls, whatever words come on the other bus, but an own command that is not exempt and a restart or set-up:
-    → (ks : List Call) → AllLeaveFault (step s (event e receive transmit)) ks
+    → leavesStatus (s .setup .address) (event e receive transmit) ≡ true
+    -- then any calls, whatever words come on either bus, but an own command that is neither exempt nor ignored and a restart or set-up:
+    → (ks : List Call) → AllLeaveStatus (step s (event e receive transmit)) ks
     -- the stored status is that before the fault, with message error
-    → Marked (run (step s (event e receive transmit)) ks) (withFlag MessageError (s .held .status .0))
+    → Stands (run (step s (event e receive transmit)) ks) (withFlag MessageError (s .held .status .0))
+    × (hasFlag MessageError (run (step s (event e receive transmit)) ks .held .status .0) ≡ true)
 
 -- no-wipe: of every terminal with "an own address 0 to 30"
 abbrev pub NoWipe : Type 0
@@ -167,22 +174,85 @@ NoWipe = (s : State) → s .setup .address ≤ 30 → NoWipeFrom s
 
 -- no-wipe-after-any-past
 abbrev pub NoWipeAfterAnyPast : Type 0
-NoWipeAfterAnyPast = (address : ℕ) (receive transmit : List ℕ) (past : List Call) → NoWipeFrom (afterPast address receive transmit past)
+NoWipeAfterAnyPast = (past : Past) → NoWipeFrom (afterPast past)
+
+-- fault-exactly: `marksFault` says it of an event, accepted or not, exactly where its rules come to `faultyOf` of a command that is not exempt, and so
+-- misses no fault
+abbrev pub FaultExactly : Type 0
+FaultExactly =
+    (s : State) (e : Event) (transmit : List ℕ)
+    → (marksFault s e transmit ≡ true → ComesToFault s e transmit) × (ComesToFault s e transmit → marksFault s e transmit ≡ true)
+
+-- ==== status-stands: the same of all that the stored status holds: message error of a fault or of an illegal command, the host flags
+
+abbrev pub StatusStandsFrom : State → Type 0
+StatusStandsFrom s =
+    -- once nothing is under way but an exempt command,
+    AtRest s
+    -- and then any calls, whatever words come on either bus, but an own command that is neither exempt nor ignored and a restart or set-up:
+    → (ks : List Call) → AllLeaveStatus s ks
+    -- the stored status is as it was
+    → Stands (run s ks) (s .held .status .0)
+
+-- status-stands: of every terminal with "an own address 0 to 30"
+abbrev pub StatusStands : Type 0
+StatusStands = (s : State) → s .setup .address ≤ 30 → StatusStandsFrom s
+
+-- status-stands-after-any-past
+abbrev pub StatusStandsAfterAnyPast : Type 0
+StatusStandsAfterAnyPast = (past : Past) → StatusStandsFrom (afterPast past)
 
 -- ==== refusals-keep: "A refusal gives the number in our table and changes no state and no lent table or buffer." (demand 1)
 
--- a refused call gives the number and nothing else
+-- a refused set-up gives the number, and a terminal that never answers: `refused-silent`
+abbrev pub refusedSetUp : ℕ → List ℕ → List ℕ → SetUp
+refusedSetUp address receive transmit =
+    record { refusal = record { 0 = setUpRefusal address (length receive) (length transmit) }; terminal = freshOf nothingLegal }
+
+-- a refused event gives the number and nothing else, a refused set-up that and the terminal above
 abbrev pub ShowsNumberAlone : State → Call → Type 0
 ShowsNumberAlone s (event e receive transmit) =
     (eventOf s e receive transmit ≡ refusedOf s (eventRefusal s e (length receive) (length transmit)))
     × (eventReceive s e receive transmit ≡ receive)
-ShowsNumberAlone s (setUp address receive transmit) =
-    setUpOf address receive transmit .refusal .0 ≡ setUpRefusal address (length receive) (length transmit)
+ShowsNumberAlone s (setUp address receive transmit) = setUpOf address receive transmit ≡ refusedSetUp address receive transmit
 ShowsNumberAlone s (host setting) = Unit {0}
 ShowsNumberAlone s clearSelftest = Unit {0}
 ShowsNumberAlone s restart = Unit {0}
 
--- the run with it is the run without it, for any past and future
+-- whatever calls follow on a terminal but an accepted set-up, none carries an answer
+abbrev pub NeverAnswers : State → Type 0
+NeverAnswers s = (ks : List Call) → NoSetUp s ks → (k : Call) → answerIn (run s ks) k ≡ noAnswer
+
+-- nor stores a word
+abbrev pub NeverStores : State → Type 0
+NeverStores s =
+    (ks : List Call) → NoSetUp s ks
+    → (e : Event) (receive transmit : List ℕ) → eventReceive (run s ks) e receive transmit ≡ receive
+
+-- refused-silent: so it is of what a refused set-up gives
+abbrev pub RefusedSilent : Type 0
+RefusedSilent =
+    (address : ℕ) (receive transmit : List ℕ) → isSetUp address receive transmit ≡ false
+    → NeverAnswers (setUpOf address receive transmit .terminal) × NeverStores (setUpOf address receive transmit .terminal)
+
+-- fresh-silent: and of `Terminal::fresh` with an own address above 30, which no accepted set-up gives, that it never answers
+abbrev pub FreshSilent : Type 0
+FreshSilent = (setup : Setup) → 31 ≤ setup .address → NeverAnswers (freshOf setup)
+
+-- fresh-begins: with an own address up to 30 it is what an accepted set-up gives, and so begins a past;
+abbrev pub FreshBegins : Type 0
+FreshBegins =
+    (setup : Setup) → setup .address ≤ 30 → length (setup .receive) ≡ 32 → length (setup .transmit) ≡ 32
+    → (isSetUp (setup .address) (setup .receive) (setup .transmit) ≡ true)
+    × (freshOf setup ≡ setUpOf (setup .address) (setup .receive) (setup .transmit) .terminal)
+
+-- set-up-begins: and whatever was before it, an accepted set-up begins one; so no calls are left out
+abbrev pub SetUpBegins : Type 0
+SetUpBegins =
+    (s : State) (before : List Call) (past : Past)
+    → run s (before ++ (setUp (past .address) (past .receive) (past .transmit) ∷ past .calls)) ≡ afterPast past
+
+-- refusals-keep: the run with a refused call is the run without it, for any past and future
 abbrev pub RefusalsKeep : Type 0
 RefusalsKeep =
     (s : State) (past : List Call) (k : Call) (future : List Call) → isRefused (run s past) k ≡ true
@@ -235,7 +305,15 @@ CutByOwnAlone =
 
 -- ==== reachable: what every terminal after any past satisfies
 abbrev pub Reachable : Type 0
-Reachable = (address : ℕ) (receive transmit : List ℕ) (past : List Call) → Sound (afterPast address receive transmit past)
+Reachable = (past : Past) → Sound (afterPast past)
+
+-- answers-plain: every answer's status has the own address and none of the bits 02E2: "instrumentation 0200 (always 0), .. reserved 00E0 (0), ..
+-- bus control acceptance 0002 (always 0, house)"
+abbrev pub AnswersPlain : Type 0
+AnswersPlain =
+    (past : Past) (k : Call) → answerIn (afterPast past) k .given ≡ true
+    → (addressOf (answerIn (afterPast past) k .status .0) ≡ afterPast past .setup .address)
+    × (hasNoOther (answerIn (afterPast past) k .status .0) ≡ true)
 
 -- ==== witness: one history meets every premise of `answered`
 abbrev pub Witness : Type 0
@@ -243,4 +321,12 @@ Witness = Met
 
 -- needed: a plain message is answered at 1660, and for each premise a message that breaks it is not
 abbrev pub Needed : Type 0
-Needed = T (answersAt1660 message) × T (allLost losses) × T eventLost
+Needed = T (answersAt1660 message) × T (none answersAt1660 losses) × T eventLost
+
+-- mark-witness: one history meets every premise of `no-wipe`
+abbrev pub MarkWitness : Type 0
+MarkWitness = MarkMet
+
+-- mark-needed: faults by word and by time are marked and answered with, and for each premise a history that breaks it is not
+abbrev pub MarkNeeded : Type 0
+MarkNeeded = T (each isMarked marks) × T (none isMarked wipes) × T (reportsAt3260 questioned) × T (none reportsAt3260 untold) × T eventUntold

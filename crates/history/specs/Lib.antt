@@ -3,4 +3,5 @@ pub mod Calls
 pub mod Courses
 pub mod States
 pub mod Witnesses
+pub mod Faults
 pub mod Demands

@@ -1,4 +1,4 @@
--- Faults as they are marked, and what every terminal that can be reached is like. Assumes nothing.
+-- Faults as they are marked, what stands, and what every terminal that can be reached is like. Assumes nothing.
 use mathlib.Core.Path.{_≡_}
 use Prim.Native.Nat.{ℕ, _≤_}
 use mathlib.Core.Bool.{Bool, true, false, not, _&&_, _||_}
@@ -8,9 +8,9 @@ use lib.ListN.{length}
 use Rattle.words.specs.Words.{onClock, addressOf, isBroadcast, isTransmit, isMode, hasNoOther, awaitedOf}
 use Rattle.records.specs.declared.forms.WordRecord.{WordRecord}
 use Rattle.terminal.specs.Commands.{isOwn, isExempt}
-use Rattle.terminal.specs.Messages.{isUnderWay, isOn, awaitsData, isLate, isNextData, isSecond, isStatusFrom}
-use Rattle.terminal.specs.Rules.{rule3}
-use Rattle.terminal.specs.Events.{timeOf, passedOf}
+use Rattle.terminal.specs.Messages.{isUnderWay, awaitsData, isLate, isNextData, isSecond, isStatusFrom}
+use Rattle.terminal.specs.Rules.{rule1, faultyOf, rule2, rule3}
+use Rattle.terminal.specs.Events.{timeOf, passedOf, takenOf}
 use Rattle.terminal.specs.declared.states.Held.{Held}
 use Rattle.terminal.specs.declared.states.Phase.{Phase}
 use Rattle.terminal.specs.declared.states.Phase.the-variants.{Idle, First, Pledged, Data}
@@ -22,6 +22,10 @@ use Rattle.terminal.specs.declared.events.Event.the-variants.{Mark, Word}
 
 -- ---- a word that makes a message faulty
 
+-- A message is under way on that bus. The terminal has its own test of it (`isOn`): one that took words of the other bus for its own is seen here.
+abbrev pub isUnderWayOn : Message → ℕ → Bool
+isUnderWayOn m bus = isUnderWay (m .phase) && eqb (m .bus) bus
+
 -- "Any other record on the bus of a message under way must be its next word"
 abbrev pub isNextWord : Phase → State → WordRecord → Bool
 isNextWord Idle s r = true
@@ -32,7 +36,7 @@ isNextWord (Pledged address) s r = isStatusFrom address r
 -- "Otherwise the message is faulty, also when all its words had come."
 abbrev pub isBadWord : State → WordRecord → Bool
 isBadWord s r =
-    not (rule3 s r) && not (isOwn (s .setup .address) r) && isOn (s .message) (r .bus) && not (isNextWord (s .message .phase) s r)
+    not (rule3 s r) && not (isOwn (s .setup .address) r) && isUnderWayOn (s .message) (r .bus) && not (isNextWord (s .message .phase) s r)
 
 -- an event brings such a word
 abbrev pub hasBadWord : State → Event → Bool
@@ -44,6 +48,23 @@ abbrev pub marksFault : State → Event → List ℕ → Bool
 marksFault s e transmit =
     not (isExempt (s .setup .address) (s .message .command .0))
     && (isLate (s .message) (timeOf e) || hasBadWord (passedOf s (timeOf e) transmit) e)
+
+-- A message under way is made faulty, of a command that is not exempt: what comes of the state is `faultyOf` of it.
+pub record MadeFaulty (s next : State) : Type 0 where
+  pub under-way : isUnderWay (s .message .phase) ≡ true
+  pub marked : isExempt (s .setup .address) (s .message .command .0) ≡ false
+  pub faulty : next ≡ faultyOf s
+
+-- The rules of an event come to it: rule 2 at its time, once rule 1 is done, or its record, once rules 1 and 2 are done.
+pub data ComesToFault (s : State) (e : Event) (transmit : List ℕ) : Type 0 where
+  by-time : MadeFaulty (rule1 s (timeOf e) transmit) (rule2 (rule1 s (timeOf e) transmit) (timeOf e)) → ComesToFault s e transmit
+  by-word : MadeFaulty (passedOf s (timeOf e) transmit) (takenOf (passedOf s (timeOf e) transmit) e) → ComesToFault s e transmit
+
+-- ---- a terminal at rest
+
+-- nothing is under way but one of the two exempt commands; it may be sending
+abbrev pub AtRest : State → Type 0
+AtRest s = isUnderWay (s .message .phase) ≡ true → isExempt (s .setup .address) (s .message .command .0) ≡ true
 
 -- ---- what can be reached
 

@@ -8,13 +8,13 @@ use lib.ListN.{length, replicate}
 use Rattle.words.specs.Words.{dueDistance, parityOf, commandSync, awaitedOf}
 use Rattle.records.specs.declared.forms.WordRecord.{WordRecord}
 use Rattle.terminal.specs.States.{freshOf}
-use Rattle.terminal.specs.Events.{timeOf, eventOf}
+use Rattle.terminal.specs.Events.{timeOf, setUpOf, eventOf}
 use Rattle.terminal.specs.Cards.{mark, heard, command, dataWord, badWord, zeros}
 use Rattle.terminal.specs.declared.states.Terminal.{Terminal as State}
 use Rattle.terminal.specs.declared.answers.Answer.{Answer}
 use Rattle.terminal.specs.declared.events.Event.{Event}
 use Rattle.terminal.specs.declared.events.Event.the-variants.{Word}
-use Rattle.history.specs.Calls.{Call, setUp, event, host, clearSelftest, restart, service, busy, vectorWord, isAccepted, step, run, afterPast}
+use Rattle.history.specs.Calls.{Call, setUp, event, host, clearSelftest, restart, service, busy, vectorWord, isAccepted, isSetUp, step, run}
 use Rattle.history.specs.Courses.{Command, Course}
 
 -- an event with full tables
@@ -25,7 +25,7 @@ unfoldable pub allLegal : List ℕ
 allLegal = replicate 32 (2 ^ 32 - 1)
 
 unfoldable pub benchAfter : List Call → State
-benchAfter past = afterPast 5 allLegal allLegal past
+benchAfter past = run (setUpOf 5 allLegal allLegal .terminal) past
 
 -- ---- a history that meets every premise
 
@@ -80,6 +80,7 @@ first = command 1 9000 0x2C02
 
 -- Every premise is met, and the event carries the answer.
 pub record Met : Type 0 where
+  pub set : isSetUp 5 allLegal allLegal ≡ true
   pub address : benchAfter past .setup .address ≤ 30
   pub asks : Command (benchAfter past) asked zeros zeros
   pub count : length sent ≡ awaitedOf (asked .word)
@@ -97,9 +98,10 @@ answersTo s e receive = eventOf s e receive zeros .answer .given
 unfoldable pub answersAt1660 : List Call → Bool
 answersAt1660 calls = answersTo (benchAfter calls) (mark 1660) zeros
 
-unfoldable pub allLost : List (List Call) → Bool
-allLost [] = true
-allLost (calls ∷ rest) = not (answersAt1660 calls) && allLost rest
+-- no history of a list passes a test
+unfoldable pub none : (List Call → Bool) → List (List Call) → Bool
+none test [] = true
+none test (calls ∷ rest) = not (test calls) && none test rest
 
 -- the two data words of the message
 unfoldable pub itsData : List Call
@@ -149,7 +151,7 @@ losses =
     ∷ (message ++ (hears (mark 1660) ∷ []))
     ∷ []
 
--- a terminal of address 31, which no set-up gives, with such a message
+-- a terminal of address 31, which no accepted set-up gives, with such a message
 unfoldable pub atAll : State
 atAll = run (freshOf (record { address = 31; receive = allLegal; transmit = allLegal }))
     (hears (command 0 1000 0xF842) ∷ itsData)

@@ -31,9 +31,9 @@ unfoldable pub setUpRefusal : ℕ → ℕ → ℕ → ℕ
 setUpRefusal address receive transmit =
     cond (eqb receive 32 && eqb transmit 32) (cond (leb address 30) notRefused refusedOwnAddress) refusedTableSize
 
--- The terminal that a refused set-up gives: address 0, nothing legal (house, DECISIONS 18).
+-- The terminal that a refused set-up gives: address 31, nothing legal, so that it never answers (house, DECISIONS 18).
 abbrev pub nothingLegal : Setup
-nothingLegal = record { address = 0; receive = replicate 32 0; transmit = replicate 32 0 }
+nothingLegal = record { address = 31; receive = replicate 32 0; transmit = replicate 32 0 }
 
 unfoldable pub setUpOf : ℕ → List ℕ → List ℕ → SetUp
 setUpOf address receive transmit =

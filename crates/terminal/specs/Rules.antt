@@ -77,7 +77,8 @@ rule3 s r = isSending (s .sending) (r .bus) (r .time .0)
 
 -- "It becomes the last command unless it is transmit last command to the own address. The stored status becomes the own address, plus
 -- broadcast received if 31. Transmit status word and transmit last command (to the own address) leave the stored status as it is." And "the
--- valid command word sets the broadcast bit; 002 waits for the whole valid message." (01, Sources; 003 7.3.3.5.3.7). Departs from 002 2.7.2.
+-- valid command word sets the broadcast bit; 002 waits for the whole valid message." (01, Sources; 003 7.3.3.5.3.7).
+-- Departs from 002 2.7.2 and 003 7.3.3.6.7.1, .2 and .4.
 unfoldable pub notedStatus : ℕ → Held → ℕ → Held
 notedStatus own h word =
     cond (isExempt own word) h

@@ -1,6 +1,7 @@
 // Tests of the message under way, of the sending, and of a record as the next word (01 The terminal). Meaning: specs/Messages.antt.
 // Refusals: none.
 ghost use mathlib.Core.Path.{_≡_};
+ghost use Rattle.words.specs.Words.{isSpaced};
 ghost use Rattle.terminal.specs.Messages.{isUnderWay, isOn, isCounting, awaitsData, isWhole, isDue, isLate, isSending, isNextData, isSecond, isStatusFrom};
 use crate::commands::is_valid_record;
 use crate::states::Message;
@@ -84,11 +85,19 @@ impl Message {
         self.awaits_data() & (Terminal::SPACING_MOST.0 < past.0)
     }
 
+    // Says whether a word of that time is "195 to 205 after the one before".
+    fn is_spaced(self, time: Moment) -> bool
+        ensures answer { λ r. ⌜ r ≡ isSpaced (self .last .0) (time .0) ⌝ }
+    {
+        let past = time.since(self.last);
+        (Terminal::SPACING_LEAST.0 <= past.0) & (past.0 <= Terminal::SPACING_MOST.0)
+    }
+
     // Says whether the record is the next data word: valid, data sync, spaced.
     pub(crate) fn is_next_data(self, heard: WordRecord) -> bool
         ensures answer { λ r. ⌜ r ≡ isNextData self heard ⌝ }
     {
-        is_valid_record(heard) & (heard.sync == DATA_SYNC) & words::is_spaced(self.last, heard.time)
+        is_valid_record(heard) & (heard.sync == DATA_SYNC) & self.is_spaced(heard.time)
     }
 
     // Says whether the record is the second command word of a message between terminals.
@@ -98,7 +107,7 @@ impl Message {
         let command = CommandWord(heard.word);
         is_valid_record(heard)
             & (heard.sync == COMMAND_SYNC)
-            & words::is_spaced(self.last, heard.time)
+            & self.is_spaced(heard.time)
             & command.is_transmit()
             & !((command.address() == own) | command.is_broadcast())
             & !command.is_mode()

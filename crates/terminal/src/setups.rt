@@ -5,9 +5,10 @@ ghost use lib.ListN.{length};
 ghost use Rattle.terminal.specs.Events.{setUpRefusal, nothingLegal, setUpOf};
 use crate::states::Setup;
 use crate::states::Terminal;
+use words::CommandWord;
 use words::Refusal;
 
-// The refusal's number or 0, and the terminal: after a refusal that of address 0 with nothing legal.
+// The refusal's number or 0, and the terminal: after a refusal one that can never answer.
 pub struct SetUp {
     pub refusal: Refusal,
     pub terminal: Terminal,
@@ -41,7 +42,7 @@ fn masks(table: &[u32]) -> [u32; 32]
 }
 
 // Gives no refusal and the fresh terminal of the address and the masks, or gives the number of the refusal and the fresh terminal of
-// address 0 with nothing legal.
+// address 31 with nothing legal: every own command of that one is a broadcast, and it never answers.
 // Tables: both are only read. Refusals: 1, a table is not 32 masks; 2, own address above 30.
 pub fn set_up(address: u16, receive: &[u32], transmit: &[u32]) -> SetUp
     ensures setup { λ r. ⌜ r ≡ setUpOf address (now (receive .entry)) (now (transmit .entry)) ⌝ }
@@ -62,7 +63,7 @@ pub fn set_up(address: u16, receive: &[u32], transmit: &[u32]) -> SetUp
         };
     }
     let setup = Setup {
-        address: 0,
+        address: CommandWord::BROADCAST,
         receive: [0; 32],
         transmit: [0; 32],
     };

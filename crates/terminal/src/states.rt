@@ -1,5 +1,7 @@
 // The state of the terminal, by who changes it (01 The terminal). Meaning: specs/States.antt. Refusals: none.
 ghost use mathlib.Core.Path.{_≡_};
+ghost use mathlib.Core.List.{[], _∷_};
+ghost use Rattle.words.specs.Words.{dueDistance, spacingLeast, spacingMost};
 ghost use Rattle.terminal.specs.States.{noMessage, noSending, freshHeld, freshHost, freshOf};
 use words::CommandWord;
 use words::Moment;
@@ -134,6 +136,17 @@ impl Terminal {
     pub const SPACING_LEAST: Ticks = Ticks::SPACING_LEAST;
 
     pub const SPACING_MOST: Ticks = Ticks::SPACING_MOST;
+
+    // Gives the constants above. Nothing calls it: its promise holds each to the definition that contracts cite.
+    fn list_distances() -> [u64; 3]
+        ensures all { λ r. ⌜ r ≡ dueDistance ∷ spacingLeast ∷ spacingMost ∷ [] ⌝ }
+    {
+        [
+            Self::DUE_DISTANCE.0,
+            Self::SPACING_LEAST.0,
+            Self::SPACING_MOST.0,
+        ]
+    }
 
     // Gives the fresh terminal of a set-up: "host flags off, vector and BIT words 0, last time 0". The address is not judged: `set_up` does.
     // Tables: none. Refusals: none.

@@ -129,7 +129,7 @@ bitOf Subsystem = 0x0004
 bitOf Terminal = 0x0001
 
 -- "instrumentation 0200 (always 0), .. reserved 00E0 (0), .. bus control acceptance 0002 (always 0, house)": 00E0 is three bits from
--- 0020. (003 7.3.3.5.3.4, 7.3.3.5.3.6, 7.3.3.5.3.10; 002 2.6.3.2)
+-- 0020. (003 7.3.3.5.3.4, 7.3.3.5.3.6, 7.3.3.5.3.10; 002 2.6.3.2). Refines 003 7.3.3.5.3.10 and 002 2.6.3.7, which leave the acceptance open.
 abbrev pub hasNoOther : ℕ → Bool
 hasNoOther word = eqb (word / 0x0200 % 2) 0 && eqb (word / 0x0020 % 8) 0 && eqb (word / 0x0002 % 2) 0
 

@@ -91,7 +91,7 @@ pub fn gap(before: Moment, after: Moment) -> Ticks
     after.since(before.plus(Ticks::PARITY_MIDDLE))
 }
 
-// Says whether a word is 195 to 205 ticks after the one before. Every spacing test of the card asks this one.
+// Says whether a word is 195 to 205 ticks after the one before. Every spacing test of the card is this one or keeps its promise.
 // Tables: none. Refusals: none.
 pub fn is_spaced(before: Moment, after: Moment) -> bool
     ensures answer { λ r. ⌜ r ≡ isSpaced (before .0) (after .0) ⌝ }
