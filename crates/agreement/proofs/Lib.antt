@@ -1,7 +1,11 @@
 pub mod Agrees
+pub mod Begins
+pub mod Fronts
 pub mod Heard
 pub mod Joined
 pub mod Logged
 pub mod Outcomes
+pub mod Pairs
 pub mod Replies
 pub mod Statuses
+pub mod Worked

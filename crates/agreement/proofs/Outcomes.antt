@@ -1,42 +1,27 @@
--- The verdict that a log gives on a message of one command: that of the controller's plan on what comes behind its data words. Assumes nothing.
+-- The verdict that a log gives on a message: that of the controller's plan on what comes behind its own words. Assumes nothing.
 use mathlib.Core.Path.{_≡_, refl, sym, ap, _∙_}
-use Prim.Native.Nat.{ℕ, suc, _+_, _-_, _*_, _≤_}
-use mathlib.Core.Bool.{true, false}
+use Prim.Native.Nat.{ℕ, suc, _≤_}
+use mathlib.Core.Bool.{Bool, true, false, _&&_}
 use mathlib.Core.List.{List, [], _∷_, _++_}
 use native.Mathlib.Omega.{arith}
 use lib.ListN.{length, take, drop, length-append}
 use lib.Seq.{take-length, drop-length, take-append-le, drop-append-le}
 use borrow.Author.Tests.{le-ltb, ne-eqb}
-use Rattle.words.specs.Words.{isSpaced, wordTicks, awaitedOf, dataSync}
+use Rattle.words.specs.Words.{isSpaced, awaitedOf}
 use Rattle.words.specs.declared.times.Moment.{Moment}
 use Rattle.records.specs.declared.forms.WordRecord.{WordRecord}
-use Rattle.verdict.specs.Plans.{isPossible}
+use Rattle.history.proofs.Tests.{and-left, and-right}
+use Rattle.verdict.specs.Plans.{isPair, isPossible}
 use Rattle.verdict.specs.Verdicts.{verdictOf}
 use Rattle.verdict.specs.declared.plans.Plan.{Plan}
-use Rattle.monitor.specs.Entries.{isDataWord, lastIn, isSpoiled, hasTwins, planWith, outcomeIn}
+use Rattle.monitor.specs.Entries.{isCommand, isSecond, lastIn, isSpoiled, hasTwins, planWith, outcomeIn}
 use Rattle.monitor.specs.declared.entries.Commands.the-variants as commands
 use Rattle.monitor.specs.declared.entries.Outcome.the-variants as outcome
-use Rattle.agreement.specs.Agreement.{dataFrom}
-use Rattle.agreement.specs.Logged.{BackToBack}
-use Rattle.agreement.proofs.Heard.{heard-valid}
-use Rattle.agreement.proofs.Joined.{spaced-apart, Alone}
+use Rattle.agreement.specs.Agreement.{BackToBack}
+use Rattle.agreement.proofs.Heard.{spaced-apart}
+use Rattle.agreement.proofs.Joined.{Alone}
 
 -- ---- data words back to back
-
--- those of an answer are
-pub answer-spaced : (bus : ℕ) (words : List ℕ) (t : ℕ) → BackToBack bus t (dataFrom (t + wordTicks) bus words)
-unfolding dataFrom isDataWord isSpaced
-answer-spaced bus [] t = tt
-answer-spaced bus (word ∷ words) t =
-    let apart : t + wordTicks - t ≡ wordTicks = omega arith in
-    (refl, rw (heard-valid dataSync word refl), rw apart, answer-spaced bus words (t + wordTicks))
-
--- the last of them
-pub answer-last : (bus : ℕ) (words : List ℕ) (r : WordRecord)
-    → lastIn r (dataFrom (r .time .0 + wordTicks) bus words) .time .0 ≡ r .time .0 + wordTicks * length words
-unfolding dataFrom
-answer-last bus [] r = omega arith
-answer-last bus (word ∷ words) r = answer-last bus words _ ∙ omega arith
 
 pub last-append : (first : WordRecord) (rs more : List WordRecord) → lastIn first (rs ++ more) ≡ lastIn (lastIn first rs) more
 last-append first [] more = refl
@@ -56,7 +41,7 @@ data-sound : (bus t : ℕ) (ds more : List WordRecord) → BackToBack bus t ds �
 data-sound bus t [] more spaced = refl
 data-sound bus t (d ∷ ds) more spaced = rw (spaced .1, spaced .2) (data-sound bus (d .time .0) ds more (spaced .3))
 
--- ---- the outcome
+-- ---- the outcome of one command
 
 -- the plan of a message of one command, its last own word at that time
 abbrev pub planAt : WordRecord → Moment → Moment → Plan
@@ -87,3 +72,22 @@ outcome-own bus c ds more until alone awaited spaced possible twins =
     outcome-one c (ds ++ more) until (length ds) alone (sym awaited) (rw own possible) (data-sound bus (c .time .0) ds more spaced)
     (simp length-append (omega arith)) twins
     ∙ rw (own, returned)
+
+-- ---- that of two
+
+-- a second command is one, comes 195 to 205 after the first, and is a pair with it
+pub second-parts : (c second : WordRecord) → isSecond c second ≡ true
+    → (isCommand second ≡ true) × (isSpaced (c .time .0) (second .time .0) ≡ true) × (isPair (c .word) (second .word) ≡ true)
+unfolding isSecond
+second-parts c second directly =
+    let spaced : Bool = isSpaced (c .time .0) (second .time .0) in
+    let front = and-left _ _ directly in
+    (and-left _ _ front, and-right (isCommand second) _ front, and-right (isCommand second && spaced) _ directly)
+
+-- the controller's own words are the two
+pub outcome-two : (c second : WordRecord) (rest : List WordRecord) (until : Moment) → isSecond c second ≡ true → hasTwins c (second ∷ rest) ≡ false
+    → outcomeIn c (second ∷ rest) until
+    ≡ outcome.Given
+    (record { 0 = verdictOf (planWith (commands.Two (record { 0 = c .word }) (record { 0 = second .word })) (c .bus) (second .time) until) rest })
+unfolding outcomeIn isPossible
+outcome-two c second rest until directly twins = rw (directly, second-parts c second directly .2, le-ltb (length rest) 0 (omega arith), twins)

@@ -13,12 +13,12 @@ use Rattle.words.specs.Modes.{Row, row, rows, found, listingOf, allows, isAllow
 use Rattle.words.specs.declared.modes.Listing.{Listing}
 use Rattle.words.specs.declared.modes.Listing.the-variants.{Listed}
 use Rattle.terminal.specs.Commands.{isHeldIllegal, isLegal}
-use Rattle.terminal.specs.Settling.{firstPlace, tableWords, modeWords, legalReply, replyOf}
+use Rattle.terminal.specs.Settling.{firstPlace, noWords, tableWords, modeWords, legalReply, replyOf}
 use Rattle.terminal.specs.declared.states.Setup.{Setup}
 use Rattle.terminal.specs.declared.states.Terminal.{Terminal as State}
 use Rattle.terminal.specs.declared.answers.Reply.{Reply}
 use Rattle.words.proofs.Counts.{words-most}
-use Rattle.history.proofs.Tests.{false≢, cond-cases, and-left, and-right, or-false}
+use Rattle.history.proofs.Tests.{false≢, cond-cases, cond-same, and-left, and-right, or-false}
 use Rattle.verdict.specs.Plans.{isSingle, sentBy, sentOf}
 
 -- ---- a legal command
@@ -86,6 +86,11 @@ module _ (s : State) (w : ℕ) where
   mode-sends =
       both-cases Sends (eqb (codeOf w) 16) (λ e. refl)
       (λ e. both-cases Sends (eqb (codeOf w) 18) (λ e. refl) (λ e. both-cases Sends (eqb (codeOf w) 19) (λ e. refl) (λ e. refl)))
+
+  -- to a receive command that is no mode command a status alone
+  pub receive-alone : (transmit : List ℕ) → isMode w ≡ false → isTransmit w ≡ false → replyOf s w transmit ≡ noWords
+  unfolding replyOf legalReply
+  receive-alone transmit plain receives = rw (plain, receives) (cond-same (isLegal (s .setup) w) noWords)
 
   module _ (transmit : List ℕ) (sized : length transmit ≡ 1024) where
     -- that from the transmit table, whose words from a subaddress on are at least 32

@@ -1,2 +1,3 @@
 pub mod Agreement
 pub mod Logged
+pub mod Worked

@@ -23,7 +23,9 @@ use Rattle.monitor.specs.declared.entries.Outcome.the-variants as outcom
 use Rattle.monitor.specs.declared.entries.Entry.{Entry}
 use Rattle.monitor.specs.declared.entries.Entry.the-variants as entry
 use Rattle.monitor.specs.declared.entries.Logged.{Logged}
+use Rattle.monitor.specs.declared.walks.Found.{Found}
 use Rattle.monitor.specs.declared.walks.Found.the-variants as found
+use Rattle.monitor.specs.declared.walks.Stop.{Stop}
 use Rattle.monitor.specs.declared.walks.Stop.the-variants as stop
 use Rattle.monitor.specs.declared.walks.Side.{Side}
 use Rattle.monitor.specs.declared.sides.Choice.the-variants.{FeedFirst, FeedSecond, GiveFirst, GiveSecond, Over}
@@ -77,7 +79,61 @@ LogOfTheFile =
     → (es : List Logged) (a b : Side) → Course (sideStart 0) bytes (sideStart 1) bytes es a b
     → (es ≡ fileLog (version ∷ bytes) .entries) × EndsAs (fileLog (version ∷ bytes)) a × EndsAs (fileLog (version ∷ bytes)) b
 
--- And there is such a course for every file, so that the log is given to its end: log-is-given
+-- What is left to do of a side: of one that reads on, its bytes and two steps more; of one that has ended, none; and one where it has an entry to give.
+abbrev pub leftWith : Stop → Found → ℕ → ℕ
+leftWith stop.Reading found.Nothing bytes = bytes + 2
+leftWith stop.Reading (found.Entry e) bytes = bytes + 3
+leftWith (stop.Ended n) found.Nothing bytes = 0
+leftWith (stop.Ended n) (found.Entry e) bytes = 1
+
+abbrev pub leftOf : Side → List ℕ → ℕ
+leftOf s us = leftWith (s .stop) (s .found) (length us)
+
+-- A side that is to be fed: less is left after any chunk of its bytes that has a whole record, and after the end where fewer than 16 are left. A shorter
+-- chunk changes nothing, and no byte of it is taken.
+pub record Feeds (s : Side) (us : List ℕ) : Type 0 where
+  pub fed : (chunk rest : List ℕ) → us ≡ chunk ++ rest → recordBytes ≤ length chunk → leftOf (fedOf s chunk .side) (drop (fedOf s chunk .taken) us) < leftOf s us
+  pub ended : length us < recordBytes → leftOf (endedBy s us) [] < leftOf s us
+  pub short : (chunk : List ℕ) → length chunk < recordBytes → fedOf s chunk ≡ record { side = s; taken = 0 }
+
+-- A side that is to give: it has an entry, and less is left after it.
+pub record Gives (s : Side) (us : List ℕ) : Type 0 where
+  pub found : (e : Logged) × (s .found ≡ found.Entry e)
+  pub given : leftOf (givenOf s) us < leftOf s us
+
+-- Each call that `choose` asks for lessens what is left of its side: goes-on
+pub record Advances (a : Side) (us : List ℕ) (b : Side) (vs : List ℕ) : Type 0 where
+  pub first-fed : choiceOf (readyOf a) (readyOf b) ≡ FeedFirst → Feeds a us
+  pub second-fed : choiceOf (readyOf a) (readyOf b) ≡ FeedSecond → Feeds b vs
+  pub first-given : choiceOf (readyOf a) (readyOf b) ≡ GiveFirst → Gives a us
+  pub second-given : choiceOf (readyOf a) (readyOf b) ≡ GiveSecond → Gives b vs
+
+abbrev pub GoesOn : Type 0
+GoesOn = (a b : Side) (us vs : List ℕ) → Advances a us b vs
+
+-- The calls come to Over, whichever chunks the caller feeds, if only each has a whole record while there is one.
+pub data Finishes : Side → List ℕ → Side → List ℕ → Type 0 where
+  finished : {a b : Side} {us vs : List ℕ} → choiceOf (readyOf a) (readyOf b) ≡ Over → Finishes a us b vs
+  feeds-first : {a b : Side} {us vs : List ℕ} → choiceOf (readyOf a) (readyOf b) ≡ FeedFirst
+      → ((chunk rest : List ℕ) → us ≡ chunk ++ rest → recordBytes ≤ length chunk → Finishes (fedOf a chunk .side) (drop (fedOf a chunk .taken) us) b vs)
+      → (length us < recordBytes → Finishes (endedBy a us) [] b vs)
+      → Finishes a us b vs
+  feeds-second : {a b : Side} {us vs : List ℕ} → choiceOf (readyOf a) (readyOf b) ≡ FeedSecond
+      → ((chunk rest : List ℕ) → vs ≡ chunk ++ rest → recordBytes ≤ length chunk → Finishes a us (fedOf b chunk .side) (drop (fedOf b chunk .taken) vs))
+      → (length vs < recordBytes → Finishes a us (endedBy b vs) [])
+      → Finishes a us b vs
+  gives-first : {a b : Side} {us vs : List ℕ} (e : Logged) → choiceOf (readyOf a) (readyOf b) ≡ GiveFirst → a .found ≡ found.Entry e
+      → Finishes (givenOf a) us b vs
+      → Finishes a us b vs
+  gives-second : {a b : Side} {us vs : List ℕ} (e : Logged) → choiceOf (readyOf a) (readyOf b) ≡ GiveSecond → b .found ≡ found.Entry e
+      → Finishes a us (givenOf b) vs
+      → Finishes a us b vs
+
+-- So they do, from any two sides and any bytes: comes-to-over
+abbrev pub ComesToOver : Type 0
+ComesToOver = (a b : Side) (us vs : List ℕ) → Finishes a us b vs
+
+-- So there is a course for every file, and the log is given to its end: log-is-given
 abbrev pub LogIsGiven : Type 0
 LogIsGiven = (bytes : List ℕ) → (es : List Logged) × (a : Side) × (b : Side) × Course (sideStart 0) bytes (sideStart 1) bytes es a b
 

@@ -80,7 +80,7 @@ status-good address unjudged last r h =
       flags = unjudged-good unjudged r (from .1);
     }
 
-good-status : (address : ℕ) (unjudged : Bool) (last : ℕ) (r : WordRecord) → GoodStatus address unjudged last r → statusFact address unjudged last r ≡ good
+pub good-status : (address : ℕ) (unjudged : Bool) (last : ℕ) (r : WordRecord) → GoodStatus address unjudged last r → statusFact address unjudged last r ≡ good
 unfolding statusFact flagFact
 good-status address unjudged last r g =
     let gap : ℕ = gapOf last (r .time .0) in
@@ -97,7 +97,7 @@ data-good last r h =
     let is-valid = not-false _ (valid .0) in
     record { spaced = not-false _ (spaced .0); valid = is-valid; sync = other-one (r .sync) dataSync commandSync (or-swap (eqb (r .sync) commandSync) (eqb (r .sync) dataSync) (valid-sync r is-valid)) (sync .0) }
 
-good-data : (last : ℕ) (r : WordRecord) → GoodData last r → dataFact last r ≡ good
+pub good-data : (last : ℕ) (r : WordRecord) → GoodData last r → dataFact last r ≡ good
 unfolding dataFact
 good-data last r g =
     let no-command : eqb (r .sync) commandSync ≡ false = rw (g .sync) in

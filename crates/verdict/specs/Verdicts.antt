@@ -104,9 +104,12 @@ abbrev pub lookedOr : Judged → ℕ → ℕ
 lookedOr (judged.Given f) before = f .looked
 lookedOr (judged.Refused n) before = before
 
--- ---- at a place, as the code asks: for the contracts of inner functions, nothing above rests on it
+-- ---- at a place, as the code asks; no definition above needs these. `expectedAt` and `finishOf` stand in the promises of `Plan::fact_at` and
+-- `Plan::finish`, in look-by-look and in `monitor`; `sentFirst` and `refusedOf` in those of inner functions alone.
 
--- what is expected at a place, counted from 0
+-- "Expected back: a status; for transmit, status and data; for two commands the transmitter's status and data, then the receiver's status; for
+-- broadcast nothing, but the transmitter's part with two commands.": of these in their order the one at the place, counted from 0; past the last
+-- Nothing, so that a record there is "left over".
 abbrev pub expectedAt : Plan → ℕ → Expected
 expectedAt plan place = getD (expectedOf plan) place Nothing
 
