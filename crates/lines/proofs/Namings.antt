@@ -10,7 +10,7 @@ use lib.ListN.{length, drop, getD, drop-of-length-le}
 use lib.Seq.{drop-cons}
 use borrow.Author.Tests.{ltb-false, le-leb, eqb-true, eq-eqb}
 use Rattle.lines.specs.Sinks.{placeAfter, blockAfter}
-use Rattle.lines.specs.Names.{sameText, shownOf, placeAfterName, blockAfterName, placeBefore, placeAfterNamed, blockAfterNamed}
+use Rattle.lines.specs.Names.{sameText, shownOf, placeAfterName, blockAfterName, placeBefore, placeAfterNamed, blockAfterNamed, colonText, placeBehindProgram, placeAfterSentence, blockAfterSentence}
 use Rattle.lines.specs.Theorems.{SameText, TextSame, ShownPlain}
 
 -- ---- two texts
@@ -118,3 +118,17 @@ module _ (at first second : ℕ) (begin name : List ℕ) where
 -- a line that is put behind nothing
 pub named-front : (block last begin name : List ℕ) (at : ℕ) → at ≡ 0 → last ≡ blockAfterNamed block at begin name → last ≡ blockAfterNamed block 0 begin name
 named-front block last begin name at e q = rw e at q
+
+-- ---- a sentence: the program, then the colon, then the name
+
+module _ (at first second : ℕ) (program name : List ℕ) where
+  pub sentence-place : (r : ℕ) → first ≡ placeAfter at (length program) → second ≡ placeAfter first 2 → r ≡ placeAfterName second name
+      → r ≡ placeAfterSentence at program name
+  unfolding placeAfterSentence placeBehindProgram
+  sentence-place r e f q = rw (← e, ← f) q
+
+  pub sentence-block : first ≡ placeAfter at (length program) → second ≡ placeAfter first 2 → (block begun colon last : List ℕ)
+      → begun ≡ blockAfter block at program → colon ≡ blockAfter begun first colonText → last ≡ blockAfterName colon second name
+      → last ≡ blockAfterSentence block at program name
+  unfolding blockAfterSentence placeBehindProgram
+  sentence-block e f block begun colon last m n q = rw (← e, ← f, ← m, ← n) q

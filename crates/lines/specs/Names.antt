@@ -62,3 +62,22 @@ blockAfterNamed block at begin name =
 -- "# error ", with which the line of a file that failed begins.
 abbrev pub errorText : List ℕ
 errorText = 35 ∷ 32 ∷ 101 ∷ 114 ∷ 114 ∷ 111 ∷ 114 ∷ 32 ∷ []
+
+-- ---- a sentence on standard error
+
+-- What stands between the program and the name.
+abbrev pub colonText : List ℕ
+colonText = 58 ∷ 32 ∷ []
+
+-- The place behind the program and that.
+unfoldable pub placeBehindProgram : ℕ → List ℕ → ℕ
+placeBehindProgram at program = placeAfter (placeAfter at (length program)) 2
+
+-- The place behind "PROGRAM: NAME".
+unfoldable pub placeAfterSentence : ℕ → List ℕ → List ℕ → ℕ
+placeAfterSentence at program name = placeAfterName (placeBehindProgram at program) name
+
+-- The block with it where it waits.
+unfoldable pub blockAfterSentence : List ℕ → ℕ → List ℕ → List ℕ → List ℕ
+blockAfterSentence block at program name =
+    blockAfterName (blockAfter (blockAfter block at program) (placeAfter at (length program)) colonText) (placeBehindProgram at program) name

@@ -1,33 +1,42 @@
-// What goes to standard error, and the line that closes what failed (02 a, c, j). What is written there no contract can say. Meaning of the rest: specs/Sinks.antt,
+// What goes to standard error, and the line that closes what failed (02 a, c, j). What the system takes of it no contract can say: a function that gives nothing promises
+// that what it is lent is as before, to which its type holds it too, and what waits for standard error is that of `put_sentence`. Meaning of the rest: specs/Sinks.antt,
 // specs/Names.antt. Refusals: none.
 ghost use mathlib.Core.Path.{_≡_};
 ghost use mathlib.Core.Bool.{true};
-ghost use Rattle.lines.specs.Names.{errorText, blockAfterNamed};
+ghost use Rattle.lines.specs.Names.{errorText, blockAfterNamed, placeAfterSentence, blockAfterSentence};
 use crate::sinks::Block;
 use crate::sinks::Sink;
 use libc::STDERR_FILENO;
 
 // Begins a sentence on standard error: "PROGRAM: NAME", with no line end.
 // Tables: program and name are only read. Refusals: none.
-pub fn begin_complaint(program: &[u8], name: &[u8]) {
+pub fn begin_complaint(program: &[u8], name: &[u8])
+    ensures program { λ _. ⌜ now (program .exit) ≡ now (program .entry) ⌝ }
+    ensures name { λ _. ⌜ now (name .exit) ≡ now (name .entry) ⌝ }
+{
     let mut block = io::large_buffer();
     Sink::to(STDERR_FILENO)
-        .put_text(&mut block, program)
-        .put_text(&mut block, b": ")
-        .put_name(&mut block, name)
+        .put_sentence(&mut block, program, name)
         .flush(&block);
 }
 
 // Says what failed just now, with the system's reason: "PROGRAM: NAME: REASON".
 // Tables: program and name are only read. Refusals: none.
-pub fn complain(program: &[u8], name: &[u8]) {
+pub fn complain(program: &[u8], name: &[u8])
+    ensures program { λ _. ⌜ now (program .exit) ≡ now (program .entry) ⌝ }
+    ensures name { λ _. ⌜ now (name .exit) ≡ now (name .entry) ⌝ }
+{
     begin_complaint(program, name);
     os::fail(b"");
 }
 
 // Says something of a file, as ": not whole": "PROGRAM: NAME: not whole".
 // Tables: program, name and what are only read. Refusals: none.
-pub fn remark(program: &[u8], name: &[u8], what: &[u8]) {
+pub fn remark(program: &[u8], name: &[u8], what: &[u8])
+    ensures program { λ _. ⌜ now (program .exit) ≡ now (program .entry) ⌝ }
+    ensures name { λ _. ⌜ now (name .exit) ≡ now (name .entry) ⌝ }
+    ensures what { λ _. ⌜ now (what .exit) ≡ now (what .entry) ⌝ }
+{
     begin_complaint(program, name);
     io::write_all(STDERR_FILENO, what);
     io::write_all(STDERR_FILENO, b"\n");
@@ -44,6 +53,18 @@ pub fn hold_errors() {
 }
 
 impl Sink {
+    // Gives the sink with the beginning of a sentence more: "PROGRAM: NAME".
+    fn put_sentence(self, block: &mut Block, program: &[u8], name: &[u8]) -> Sink
+        ensures place { λ r. ⌜ r .at ≡ placeAfterSentence (self .at) (now (program .entry)) (now (name .entry)) ⌝ }
+        ensures file { λ r. ⌜ r .fd ≡ self .fd ⌝ }
+        ensures block { λ _. ⌜ now (block .exit) ≡ blockAfterSentence (now (block .entry)) (self .at) (now (program .entry)) (now (name .entry)) ⌝ }
+        ensures stays { λ r. ⌜ (self .failed ≡ true → r .failed ≡ true) ⌝ }
+    {
+        self.put_text(block, program)
+            .put_text(block, b": ")
+            .put_name(block, name)
+    }
+
     // Gives the sink with all that waited written, and says a failure of this flush, as one of standard output. Who puts lines must have flushed, or looked at
     // `failed`, before: a failure of a put is not said here.
     // Tables: block and program are only read. Refusals: none; `failed` says whether a write has failed.

@@ -1,2 +1,4 @@
--- The status of a tool's run.
+-- The status of a tool's run; the arguments that all tools read alike; the front of a call.
 pub mod Statuses
+pub mod Arguments
+pub mod Fronts

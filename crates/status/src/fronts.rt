@@ -1,4 +1,10 @@
-// The front of a call: `--status-fd N` and `--version`, before all else (docs/LINES.md, "The status"). What the system hands out and takes no contract can say. Refusals: none.
+// The front of a call: `--status-fd N` and `--version`, before all else (docs/LINES.md, "The status"). What the system hands out and takes no contract can say: what each
+// function gives whatever that is, it promises. Meaning: specs/Fronts.antt. Refusals: none.
+ghost use mathlib.Core.Path.{_≡_};
+ghost use mathlib.Core.Bool.{true, false};
+ghost use mathlib.Core.Logic.{_⊎_};
+ghost use lib.IntN.{pos};
+ghost use Rattle.status.specs.Fronts.{descriptorOf, isNumber, frontOf, frontIn, usageOf};
 use crate::arguments::is_at;
 use crate::statuses::Status;
 use libc::EBADF;
@@ -12,7 +18,7 @@ use lines::read_decimal;
 use lines::remark;
 
 // that of CHANGELOG.md's first entry
-pub const VERSION: [u8; 6] = *b"0.15.0";
+pub const VERSION: [u8; 6] = *b"0.16.0";
 
 // the largest descriptor that the system could have
 const DESCRIPTOR_MOST: u64 = 2147483647;
@@ -37,7 +43,9 @@ enum Descriptor {
 }
 
 // Gives the descriptor that a text spells, if it is one of the system's numbers.
-fn descriptor_of(text: &[u8]) -> Descriptor {
+fn descriptor_of(text: &[u8]) -> Descriptor
+    ensures descriptor { λ r. ⌜ r ≡ descriptorOf (now (text .entry)) ⌝ }
+{
     let Number::Is(number) = read_decimal(text) else {
         return Descriptor::None;
     };
@@ -57,7 +65,9 @@ fn is_open(fd: i32) -> bool {
 
 impl Front {
     // Gives the front of a call that asks for no digit.
-    fn untold() -> Front {
+    fn untold() -> Front
+        ensures front { λ r. ⌜ r ≡ frontOf false (pos 1) ⌝ }
+    {
         Front {
             told: false,
             fd: STDOUT_FILENO,
@@ -67,7 +77,9 @@ impl Front {
 
     // Ends a run: writes the digit, where it is asked for, as the tool's last act.
     // Tables: program is only read. Refusals: none.
-    pub fn end(self, program: &[u8], status: Status) {
+    pub fn end(self, program: &[u8], status: Status)
+        ensures program { λ _. ⌜ now (program .exit) ≡ now (program .entry) ⌝ }
+    {
         if !self.told {
             return;
         }
@@ -78,7 +90,9 @@ impl Front {
 }
 
 // Says what is wrong with `--status-fd`.
-fn refuse(front: Front, program: &[u8], why: &[u8]) -> Begun {
+fn refuse(front: Front, program: &[u8], why: &[u8]) -> Begun
+    ensures front { λ r. ⌜ frontIn r ≡ front ⌝ }
+{
     remark(program, b"--status-fd", why);
     Begun::Over(front, Status::Usage)
 }
@@ -97,7 +111,9 @@ fn write_version(program: &[u8]) -> Status {
 
 // Writes how a program is called: to standard output where that was asked for, and to standard error where it was called wrongly.
 // Tables: program and usage are only read. Refusals: none.
-pub fn show_usage(program: &[u8], usage: &[u8], asked: bool) -> Status {
+pub fn show_usage(program: &[u8], usage: &[u8], asked: bool) -> Status
+    ensures status { λ r. ⌜ (r ≡ usageOf asked true) ⊎ (r ≡ usageOf asked false) ⌝ }
+{
     if !asked {
         io::write_all(STDERR_FILENO, usage);
         return Status::Usage;
@@ -110,7 +126,9 @@ pub fn show_usage(program: &[u8], usage: &[u8], asked: bool) -> Status {
 }
 
 // Gives what is asked behind `--status-fd N`, or where there is none.
-fn begin_behind(front: Front, program: &[u8]) -> Begun {
+fn begin_behind(front: Front, program: &[u8]) -> Begun
+    ensures front { λ r. ⌜ frontIn r ≡ front ⌝ }
+{
     if is_at(front.first, b"--status-fd") {
         return refuse(front, program, b" is given twice");
     }
@@ -122,7 +140,10 @@ fn begin_behind(front: Front, program: &[u8]) -> Begun {
 
 // Gives what the front of a call asks. Where it asks for the version, that is written; where it is wrong, standard error says how.
 // Tables: program is only read. Refusals: none.
-pub fn begin(program: &[u8]) -> Begun {
+pub fn begin(program: &[u8]) -> Begun
+    ensures front { λ r. ⌜ frontIn r ≡ frontOf (frontIn r .told) (frontIn r .fd) ⌝ }
+    ensures file { λ r. ⌜ isNumber (frontIn r .fd) ≡ true ⌝ }
+{
     let untold = Front::untold();
     if !is_at(1, b"--status-fd") {
         return begin_behind(untold, program);
