@@ -46,7 +46,7 @@ single-expects s until one = rw one
 
 module _ (s : State) (sound : Sound s) (t : ℕ) (due : isDue (s .message) t ≡ true) where
   -- its message is under way
-  waits : Waiting (s .setup .address) (s .time .0) (s .message)
+  waits : Waiting (s .setup .own) (s .time .0) (s .message)
   waits = sound .message (due-under-way (s .message) t due)
 
   -- a plan that is possible, on its bus, up to a Q on the clock, is not refused
@@ -82,9 +82,10 @@ module _ (s : State) (sound : Sound s) (t : ℕ) (transmit : List ℕ) (due : is
   not-broadcast = or-false (isBroadcast w) (isShut (s .held) (s .message .bus)) shown (λ one on. one)
 
   -- so it is to the own address
-  own : addressOf w ≡ s .setup .address
+  own : addressOf w ≡ s .setup .own .address
   own =
-      or-cases (eqb (addressOf w) (s .setup .address)) (isBroadcast w) (waits s sound t due .command) (eqb-true (addressOf w) (s .setup .address))
+      or-cases (eqb (addressOf w) (s .setup .own .address)) (isBroadcast w) (waits s sound t due .command)
+      (eqb-true (addressOf w) (s .setup .own .address))
       (λ all. true≢ (sym all ∙ not-broadcast))
 
   -- and its status is from there

@@ -33,14 +33,14 @@ busy-kept false flag n apart busy = busy
 
 module _ (s : State) (w : ℕ) where
   -- the address is the own one
-  pub address-settled : Sound s → addressOf (settledStatus s w) ≡ s .setup .address
+  pub address-settled : Sound s → addressOf (settledStatus s w) ≡ s .setup .own .address
   address-settled sound = status-settled s (sound .address) (sound .held) w .status
 
   -- a busy terminal says so, to a legal command that is no mode command
   busy-settled : isLegal (s .setup) w ≡ true → isMode w ≡ false → s .host .busy ≡ true → hasFlag Busy (settledStatus s w) ≡ true
   unfolding settledStatus isExempt
   busy-settled legal plain busy =
-      let exempt : isExempt (s .setup .address) w ≡ false = rw (plain, and-false) in
+      let exempt : isExempt (s .setup .own) w ≡ false = rw (plain, and-false) in
       rw (exempt, legal, busy)
       (busy-kept (s .host .defect && not (s .held .inhibit)) Terminal _ (omega arith)
       (busy-kept (s .host .subsystem) Subsystem _ (omega arith) (flag-alone Busy _ .0)))
@@ -58,9 +58,9 @@ module _ (s : State) (w : ℕ) where
       go false ready = refl
 
   -- a command whose flags are judged is not exempt
-  judged-not-exempt : isUnjudged w ≡ false → isExempt (s .setup .address) w ≡ false
+  judged-not-exempt : isUnjudged w ≡ false → isExempt (s .setup .own) w ≡ false
   unfolding isUnjudged isExempt
-  judged-not-exempt = go (eqb (addressOf w) (s .setup .address) && isTransmit w)
+  judged-not-exempt = go (eqb (addressOf w) (s .setup .own .address) && isTransmit w)
     where
       go : (own : Bool) → (isMode w && (eqb (codeOf w) 2 || eqb (codeOf w) 18)) ≡ false
           → (own && isMode w && (eqb (codeOf w) 2 || eqb (codeOf w) 18)) ≡ false

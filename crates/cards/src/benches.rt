@@ -50,11 +50,7 @@ fn no_answer() -> Answer {
 impl Bench {
     // "At the start: a terminal of address 5 with every mask FFFFFFFF, fresh; .. both tables lent whole; an empty byte buffer; no plan."
     pub(crate) fn start() -> Bench {
-        let setup = Setup {
-            address: 5,
-            receive: [0xFFFF_FFFF; 32],
-            transmit: [0xFFFF_FFFF; 32],
-        };
+        let setup = Setup::build(5, [0xFFFF_FFFF; 32], [0xFFFF_FFFF; 32]);
         let terminal = Terminal::fresh(setup);
         let plan = plan_of([0; 7]);
         Bench {

@@ -46,11 +46,7 @@ fn added(sum: u64, refusal: Refusal, answer: Answer) -> u64 {
 
 // As after an event that did nothing, on a terminal with every mask on.
 fn start(address: u16) -> Happened {
-    let setup = Setup {
-        address,
-        receive: [0xFFFF_FFFF; 32],
-        transmit: [0xFFFF_FFFF; 32],
-    };
+    let setup = Setup::build(address, [0xFFFF_FFFF; 32], [0xFFFF_FFFF; 32]);
     let answer = Answer {
         given: false,
         bus: 0,

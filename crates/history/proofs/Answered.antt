@@ -8,12 +8,11 @@ use lib.ListN.{length, take, drop}
 use lib.Seq.{paste, take-all}
 use borrow.Author.Tests.{le-leb, ne-eqb, not-true}
 use Rattle.words.specs.Words.{dueDistance, addressOf, wordsOf, isTransmit, isMode, isBroadcast, awaitedOf}
-use Rattle.terminal.specs.States.{noMessage}
+use Rattle.terminal.specs.States.{withSelftest, noMessage, stateOf, withHost}
 use Rattle.terminal.specs.Messages.{isUnderWay, isWhole, isDue}
 use Rattle.terminal.specs.Settling.{isShut, settledStatus, firstPlace, modeWords, legalReply, replyOf, storesData, storedOf, isWithheld, answerOf}
-use Rattle.terminal.specs.Effects.{withSelftest}
 use Rattle.terminal.specs.Rules.{statusNow, replyNow, rule1Answer, rule1Receive}
-use Rattle.terminal.specs.Events.{timeOf, passedOf, happensOf, eventOf, eventReceive, withHost}
+use Rattle.terminal.specs.Events.{timeOf, passedOf, happensOf, eventOf, eventReceive}
 use Rattle.terminal.specs.declared.states.Held.{Held}
 use Rattle.terminal.specs.declared.states.Setup.{Setup}
 use Rattle.terminal.specs.declared.states.Message.{Message}
@@ -42,12 +41,12 @@ module _ (s begun : State) (setup : s .setup ≡ begun .setup) (held : withSelft
 
   settled-same : (w : ℕ) → settledStatus s w ≡ settledStatus (withHost begun (s .host)) w
   unfolding settledStatus
-  settled-same w = same-read (λ a h. settledStatus (record { setup = a; host = s .host; held = h; message = s .message; sending = s .sending; time = s .time }) w)
+  settled-same w = same-read (λ a h. settledStatus (stateOf a (s .host) h (s .message) (s .sending) (s .time .0)) w)
 
   reply-same : (w : ℕ) (transmit : List ℕ) → replyOf s w transmit ≡ replyOf (withHost begun (s .host)) w transmit
   unfolding replyOf legalReply modeWords
   reply-same w transmit =
-      same-read (λ a h. replyOf (record { setup = a; host = s .host; held = h; message = s .message; sending = s .sending; time = s .time }) w transmit)
+      same-read (λ a h. replyOf (stateOf a (s .host) h (s .message) (s .sending) (s .time .0)) w transmit)
 
   stores-same : (w : ℕ) → storesData s w ≡ storesData (withHost begun (s .host)) w
   unfolding storesData
@@ -147,7 +146,7 @@ answered s few r receive transmit k words all ks end course e receive' transmit'
     let later : State = run begun ks in
     let way : Arrived begun (r .bus) (r .word) end words begun ks =
     carry begun (r .bus) (r .word) [] (begun-way s r receive transmit k) (begun-gathered r) (omega arith) course in
-    let own : isBroadcast (r .word) ≡ false = not-broadcast (s .setup .address) (r .word) few (k .own) in
+    let own : isBroadcast (r .word) ≡ false = not-broadcast (s .setup .own .address) (r .word) few (k .own) in
     let on : isShut (begun .held) (r .bus) ≡ false = begun-on s r receive transmit k in
     let answer : eventOf later e receive' transmit' .answer ≡ dueAnswer (composing begun ks) r end transmit' =
     carries begun (r .bus) (r .word) end words later (way .way) (way .gathered) all own on e receive' transmit' ok then in

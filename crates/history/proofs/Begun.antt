@@ -12,6 +12,7 @@ use Rattle.terminal.specs.Messages.{isCounting, isSending}
 use Rattle.terminal.specs.Settling.{isShut}
 use Rattle.terminal.specs.Rules.{rule1, notedStatus, notedCommand, firstPhase, begunOf, rule4, rules3to6}
 use Rattle.terminal.specs.Events.{passedOf}
+use Rattle.terminal.specs.declared.states.Own.{Own}
 use Rattle.terminal.specs.declared.states.Held.{Held}
 use Rattle.terminal.specs.declared.states.Phase.{Phase}
 use Rattle.terminal.specs.declared.states.Sending.{Sending}
@@ -25,7 +26,7 @@ use Rattle.history.proofs.Passing.{passed-own, passed-sending, passed-s
 use Rattle.history.proofs.Ways.{Way, Gathered}
 
 -- rule 4 shuts and opens none
-noted-shut : (own : ℕ) (h : Held) (word : ℕ) → notedCommand own (notedStatus own h word) word .shut ≡ h .shut
+noted-shut : (own : Own) (h : Held) (word : ℕ) → notedCommand own (notedStatus own h word) word .shut ≡ h .shut
 unfolding notedCommand notedStatus
 noted-shut own h word =
     let same : Held → Type 0 = λ x. x .shut ≡ h .shut in
@@ -42,13 +43,13 @@ pub begun-gathered : (r : WordRecord) → Gathered (r .bus) (r .word) (r .time .
 unfolding begunOf
 begun-gathered r = record { counts = first-counts (r .word); on = refl; asked = refl; last = refl; got = refl; kept = refl; room = refl }
 
-pub own-command : (own : ℕ) (r : WordRecord) → isValidRecord r ≡ true → r .sync ≡ commandSync → addressOf (r .word) ≡ own → isOwn own r ≡ true
+pub own-command : (own : Own) (r : WordRecord) → isValidRecord r ≡ true → r .sync ≡ commandSync → addressOf (r .word) ≡ own .address → isOwn own r ≡ true
 unfolding isOwn
 own-command own r valid sync to =
     let command : eqb (r .sync) commandSync ≡ true = rw sync in
-    rw (valid, command, eq-eqb (addressOf (r .word)) own to)
+    rw (valid, command, eq-eqb (addressOf (r .word)) (own .address) to)
 
-rules-own : (s : State) (r : WordRecord) → isSending (s .sending) (r .bus) (r .time .0) ≡ false → isOwn (s .setup .address) r ≡ true → rules3to6 s r ≡ rule4 s r
+rules-own : (s : State) (r : WordRecord) → isSending (s .sending) (r .bus) (r .time .0) ≡ false → isOwn (s .setup .own) r ≡ true → rules3to6 s r ≡ rule4 s r
 unfolding rules3to6
 rules-own s r quiet own = rw (quiet, own)
 
@@ -58,8 +59,8 @@ module _ (s : State) (r : WordRecord) (receive transmit : List ℕ) (k : Command
       let x : State = passedOf s (r .time .0) transmit in
       let quiet : isSending (x .sending) (r .bus) (r .time .0) ≡ false =
       ap (λ (y : Sending). isSending y (r .bus) (r .time .0)) (passed-sending s (r .time .0) transmit) ∙ k .quiet in
-      let own : isOwn (x .setup .address) r ≡ true =
-      passed-own s (r .time .0) transmit r ∙ own-command (s .setup .address) r (k .valid) (k .sync) (k .own) in
+      let own : isOwn (x .setup .own) r ≡ true =
+      passed-own s (r .time .0) transmit r ∙ own-command (s .setup .own) r (k .valid) (k .sync) (k .own) in
       stepped s (Word r) receive transmit (k .accepted) ∙ rules-own x r quiet own
 
   pub begun-way : Way (step s (event (Word r) receive transmit)) (begunOf r) (step s (event (Word r) receive transmit))
@@ -77,5 +78,5 @@ module _ (s : State) (r : WordRecord) (receive transmit : List ℕ) (k : Command
   begun-on =
       let x : State = passedOf s (r .time .0) transmit in
       let same : step s (event (Word r) receive transmit) .held .shut ≡ rule1 s (r .time .0) transmit .held .shut =
-      ap (λ (y : State). y .held .shut) begun-step ∙ noted-shut (x .setup .address) (x .held) (r .word) ∙ passed-shut s (r .time .0) transmit in
+      ap (λ (y : State). y .held .shut) begun-step ∙ noted-shut (x .setup .own) (x .held) (r .word) ∙ passed-shut s (r .time .0) transmit in
       rw same (k .transmitter)

@@ -8,10 +8,11 @@ use borrow.Author.Tests.{ltb-true, lt-leb, not-true}
 use Rattle.words.specs.Words.{awaitedOf}
 use Rattle.words.proofs.Truth.{and-both}
 use Rattle.records.specs.declared.forms.WordRecord.{WordRecord}
+use Rattle.terminal.specs.States.{atTime}
 use Rattle.terminal.specs.Commands.{isOwn, isExempt}
 use Rattle.terminal.specs.Messages.{isUnderWay, isOn, isCounting, awaitsData, isWhole, isDue, isLate, isNextData, isSecond}
 use Rattle.terminal.specs.Rules.{settledOf, rule1, faultyOf, rule2, rule3, firstPhase, begunOf, rule4, stagedOf, movedOf, nextData, nextWord, rule5, rules3to6}
-use Rattle.terminal.specs.Events.{timeOf, atTime, passedOf, takenOf}
+use Rattle.terminal.specs.Events.{timeOf, passedOf, takenOf}
 use Rattle.terminal.specs.declared.states.Phase.{Phase}
 use Rattle.terminal.specs.declared.states.Phase.the-variants.{Idle, First, Pledged, Data}
 use Rattle.terminal.specs.declared.states.Message.{Message}
@@ -51,7 +52,7 @@ unfolding nextWord nextData
 bad-next Idle s r bad = true≢ bad
 bad-next Data s r bad = rw bad
 bad-next First s r bad =
-    or-false (isSecond (s .setup .address) (s .message) r) (awaitsData (s .message) && isNextData (s .message) r) bad
+    or-false (isSecond (s .setup .own) (s .message) r) (awaitsData (s .message) && isNextData (s .message) r) bad
     (λ no-second no-data. rw (no-second, no-data))
 bad-next (Pledged address) s r bad = rw bad
 
@@ -59,7 +60,7 @@ pub bad-faulty : (s : State) (r : WordRecord) → isBadWord s r ≡ true → rul
 unfolding rules3to6 rule5
 bad-faulty s r bad =
     let quiet : rule3 s r ≡ false = not-true (rule3 s r) (search (and-left, and-right, bad)) in
-    let foreign : isOwn (s .setup .address) r ≡ false = not-true (isOwn (s .setup .address) r) (search (and-left, and-right, bad)) in
+    let foreign : isOwn (s .setup .own) r ≡ false = not-true (isOwn (s .setup .own) r) (search (and-left, and-right, bad)) in
     let on : isOn (s .message) (r .bus) ≡ true = unfold isOn in search (and-left, and-right, bad) in
     let wrong : isNextWord (s .message .phase) s r ≡ false = not-true (isNextWord (s .message .phase) s r) (search (and-left, and-right, bad)) in
     rw (quiet, foreign, on, bad-next (s .message .phase) s r wrong)
@@ -71,7 +72,7 @@ bad-under-way s r bad = search (and-left, and-right, bad)
 pub passed-still : (s : State) (t : ℕ) (transmit : List ℕ) → isUnderWay (passedOf s t transmit .message .phase) ≡ true → passedOf s t transmit ≡ atTime s t
 passed-still s t transmit on = let before = passed-under-way s t transmit on in still s t transmit (before .0) (before .1)
 
-module _ (s : State) (transmit : List ℕ) (plain : isExempt (s .setup .address) (s .message .command .0) ≡ false) where
+module _ (s : State) (transmit : List ℕ) (plain : isExempt (s .setup .own) (s .message .command .0) ≡ false) where
   word-comes : (e : Event) → hasBadWord (passedOf s (timeOf e) transmit) e ≡ true → ComesToFault s e transmit
   word-comes (Mark t) bad = false≢ bad
   word-comes (Word r) bad =
@@ -91,7 +92,7 @@ module _ (s : State) (transmit : List ℕ) (plain : isExempt (s .setup .address)
 
 marked-comes : (s : State) (e : Event) (transmit : List ℕ) → marksFault s e transmit ≡ true → ComesToFault s e transmit
 marked-comes s e transmit marks =
-    let exempt : Bool = isExempt (s .setup .address) (s .message .command .0) in
+    let exempt : Bool = isExempt (s .setup .own) (s .message .command .0) in
     let late : Bool = isLate (s .message) (timeOf e) in
     let bad : Bool = hasBadWord (passedOf s (timeOf e) transmit) e in
     let parts = and-both (not exempt) (late || bad) marks in
@@ -107,12 +108,12 @@ no-fault s next on same = true≢ (sym on ∙ ap (λ (x : State). isUnderWay (x 
 
 -- by its time
 by-time-late : (s : State) (t : ℕ) (transmit : List ℕ) → MadeFaulty (rule1 s t transmit) (rule2 (rule1 s t transmit) t)
-    → (isExempt (s .setup .address) (s .message .command .0) ≡ false) × (isLate (s .message) t ≡ true)
+    → (isExempt (s .setup .own) (s .message .command .0) ≡ false) × (isLate (s .message) t ≡ true)
 unfolding rule1 rule2 settledOf
 by-time-late s t transmit = go (isDue (s .message) t) refl
   where
     Fact : Type 0
-    Fact = (isExempt (s .setup .address) (s .message .command .0) ≡ false) × (isLate (s .message) t ≡ true)
+    Fact = (isExempt (s .setup .own) (s .message .command .0) ≡ false) × (isLate (s .message) t ≡ true)
 
     late : (b : Bool) → isLate (s .message) t ≡ b → MadeFaulty s (rule2 s t) → Fact
     late true is made = (made .marked, is)
@@ -128,9 +129,9 @@ unfolding nextWord nextData stagedOf movedOf
 good-next Idle s r on good = false≢ on
 good-next Data s r on good = rw good
 good-next First s r on good =
-    or-cases (isSecond (s .setup .address) (s .message) r) (awaitsData (s .message) && isNextData (s .message) r) good
+    or-cases (isSecond (s .setup .own) (s .message) r) (awaitsData (s .message) && isNextData (s .message) r) good
     (λ second. rw second)
-    (λ next. cond-cases (λ (x : State). isUnderWay (x .message .phase) ≡ true) (isSecond (s .setup .address) (s .message) r) (λ second. refl) (λ other. rw next))
+    (λ next. cond-cases (λ (x : State). isUnderWay (x .message .phase) ≡ true) (isSecond (s .setup .own) (s .message) r) (λ second. refl) (λ other. rw next))
 good-next (Pledged address) s r on good = rw good
 
 begun-under-way : (r : WordRecord) → isUnderWay (begunOf r .phase) ≡ true
@@ -139,10 +140,10 @@ begun-under-way r = counting-under-way (firstPhase (r .word)) (first-counts (r .
 
 by-word-bad : (s : State) (r : WordRecord) → isUnderWay (s .message .phase) ≡ true → rules3to6 s r ≡ faultyOf s → isBadWord s r ≡ true
 unfolding rules3to6 rule4 rule5 isOn
-by-word-bad s r on same = go (rule3 s r) refl (isOwn (s .setup .address) r) refl (isOn (s .message) (r .bus)) refl (isNextWord (s .message .phase) s r) refl
+by-word-bad s r on same = go (rule3 s r) refl (isOwn (s .setup .own) r) refl (isOn (s .message) (r .bus)) refl (isNextWord (s .message .phase) s r) refl
   where
     go : (a : Bool) → rule3 s r ≡ a
-        → (b : Bool) → isOwn (s .setup .address) r ≡ b
+        → (b : Bool) → isOwn (s .setup .own) r ≡ b
         → (c : Bool) → isOn (s .message) (r .bus) ≡ c
         → (d : Bool) → isNextWord (s .message .phase) s r ≡ d
         → isBadWord s r ≡ true
@@ -163,7 +164,7 @@ comes-marked s e transmit (by-time made) =
     let late = by-time-late s (timeOf e) transmit made in
     rw (late .0, late .1)
 comes-marked s e transmit (by-word made) =
-    let plain : isExempt (s .setup .address) (s .message .command .0) ≡ false = rw (passed-still s (timeOf e) transmit (made .under-way)) at (made .marked) in
+    let plain : isExempt (s .setup .own) (s .message .command .0) ≡ false = rw (passed-still s (timeOf e) transmit (made .under-way)) at (made .marked) in
     rw (plain, by-event-bad s e transmit made) (or-true (isLate (s .message) (timeOf e)))
 
 pub fault-exactly : FaultExactly

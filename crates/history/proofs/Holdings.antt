@@ -8,10 +8,11 @@ use lib.ListN.{length-set}
 use Rattle.words.specs.Words.{withFlag}
 use Rattle.words.specs.declared.statuses.Flag.{Flag}
 use Rattle.words.proofs.Inverse.{status-fields-built}
-use Rattle.terminal.specs.States.{freshHeld}
+use Rattle.terminal.specs.States.{freshHeld, withStatus}
 use Rattle.terminal.specs.Settling.{settledStatus}
-use Rattle.terminal.specs.Effects.{withStatus, effectOf, heldAfter}
+use Rattle.terminal.specs.Effects.{effectOf, heldAfter}
 use Rattle.terminal.specs.Rules.{notedStatus, notedCommand}
+use Rattle.terminal.specs.declared.states.Own.{Own}
 use Rattle.terminal.specs.declared.states.Held.{Held}
 use Rattle.terminal.specs.declared.states.Terminal.{Terminal as State}
 use Rattle.history.specs.States.{isTo, Holding}
@@ -19,10 +20,10 @@ use Rattle.history.proofs.Tests.{cond-cases}
 use Rattle.history.proofs.Statuses.{address-kept, spare-kept}
 
 -- a choice of two, each as it should be
-pub held-either : (own : ℕ) (b : Bool) (x y : Held) → Holding own x → Holding own y → Holding own (cond b x y)
+pub held-either : (own : Own) (b : Bool) (x y : Held) → Holding own x → Holding own y → Holding own (cond b x y)
 held-either own b x y p q = cond-cases (Holding own) b (λ e. p) (λ e. q)
 
-module _ (own : ℕ) (h : Held) where
+module _ (own : Own) (h : Held) where
   -- with a choice of two statuses
   status-either : (b : Bool) (x y : ℕ) → Holding own (withStatus h x) → Holding own (withStatus h y) → Holding own (withStatus h (cond b x y))
   status-either b x y p q = cond-cases (λ (n : ℕ). Holding own (withStatus h n)) b (λ e. p) (λ e. q)
@@ -32,10 +33,10 @@ module _ (own : ℕ) (h : Held) where
   status-flag flag n k =
       record { status = address-kept flag n ∙ k .status; spare = spare-kept flag n ∙ k .spare; command = k .command; shut = k .shut }
 
-module _ (own : ℕ) (small : own ≤ 30) where
+module _ (own : Own) (small : own .address ≤ 30) where
   -- fresh
   pub held-fresh : Holding own (freshHeld own)
-  held-fresh = let built = status-fields-built own 0 (omega arith) in search
+  held-fresh = let built = status-fields-built (own .address) 0 (omega arith) in search
 
   -- after the effect of a mode command
   held-effect : (h : Held) (code bus word : ℕ) → Holding own h → Holding own (effectOf own h code bus word)
@@ -45,7 +46,7 @@ module _ (own : ℕ) (small : own ≤ 30) where
   -- with the status that an own command leaves
   status-noted : (h : Held) (word : ℕ) → Holding own h → Holding own (notedStatus own h word)
   unfolding notedStatus
-  status-noted h word k = let built = status-fields-built own 0 (omega arith) in search (held-either, status-either, status-flag)
+  status-noted h word k = let built = status-fields-built (own .address) 0 (omega arith) in search (held-either, status-either, status-flag)
 
   -- with that status and the own command as the last command
   pub command-noted : (h : Held) (word : ℕ) → isTo own word ≡ true → Holding own h
@@ -56,13 +57,13 @@ module _ (own : ℕ) (small : own ≤ 30) where
       let noted = status-noted h word k in
       search held-either
 
-module _ (s : State) (small : s .setup .address ≤ 30) (k : Holding (s .setup .address) (s .held)) where
+module _ (s : State) (small : s .setup .own .address ≤ 30) (k : Holding (s .setup .own) (s .held)) where
   -- with the status that settling leaves
-  pub status-settled : (word : ℕ) → Holding (s .setup .address) (withStatus (s .held) (settledStatus s word))
+  pub status-settled : (word : ℕ) → Holding (s .setup .own) (withStatus (s .held) (settledStatus s word))
   unfolding settledStatus
   status-settled word = search (status-either, status-flag) depth 11
 
   -- after a message is settled
-  pub held-settled : (word : ℕ) → Holding (s .setup .address) (heldAfter s (settledStatus s word))
+  pub held-settled : (word : ℕ) → Holding (s .setup .own) (heldAfter s (settledStatus s word))
   unfolding heldAfter
   held-settled word = let settled = status-settled word in search (held-either, held-effect)

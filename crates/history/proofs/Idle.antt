@@ -41,8 +41,8 @@ event-idle s e receive transmit ok foreign idle = ap (λ (x : State). x .message
     go (Mark t) ok foreign idle = idle
     go (Word r) ok foreign idle =
         let x : State = passedOf s (r .time .0) transmit in
-        let not-own : isOwn (s .setup .address) r ≡ false = rw ok at foreign in
-        let not-own1 : isOwn (x .setup .address) r ≡ false =
+        let not-own : isOwn (s .setup .own) r ≡ false = rw ok at foreign in
+        let not-own1 : isOwn (x .setup .own) r ≡ false =
         passed-own s (r .time .0) transmit r ∙ not-own in
         let off : isOn (x .message) (r .bus) ≡ false = ap (λ (m : Message). isOn m (r .bus)) idle ∙ (unfold isOn in refl) in
         ap (λ (y : State). y .message) (passed-over x r not-own1 off) ∙ idle

@@ -17,11 +17,11 @@ use Rattle.history.proofs.Steps.{accepted, accepted-table, mark-accepte
 
 -- ---- rule 6
 
-pub passed-over : (s : State) (r : WordRecord) → isOwn (s .setup .address) r ≡ false → isOn (s .message) (r .bus) ≡ false → rules3to6 s r ≡ s
+pub passed-over : (s : State) (r : WordRecord) → isOwn (s .setup .own) r ≡ false → isOn (s .message) (r .bus) ≡ false → rules3to6 s r ≡ s
 unfolding rules3to6
 passed-over s r foreign off = rw (foreign, off) (cond-same (isSending (s .sending) (r .bus) (r .time .0)) s)
 
-cuts-nothing : (s : State) (r : WordRecord) → isOwn (s .setup .address) r ≡ false → cutsSending s r ≡ false
+cuts-nothing : (s : State) (r : WordRecord) → isOwn (s .setup .own) r ≡ false → cutsSending s r ≡ false
 unfolding cutsSending
 cuts-nothing s r foreign = rw foreign
 
@@ -32,7 +32,7 @@ unfolding happensOf
 as-a-mark-once-settled s r receive transmit ok foreign off =
     let ok-mark = mark-accepted s r receive transmit ok in
     let s1 : State = passedOf s (r .time .0) transmit in
-    let foreign1 : isOwn (s1 .setup .address) r ≡ false =
+    let foreign1 : isOwn (s1 .setup .own) r ≡ false =
     passed-own s (r .time .0) transmit r ∙ foreign in (
       rw (accepted s (Word r) receive transmit ok, accepted s (Mark (r .time)) receive transmit ok-mark, passed-over s1 r foreign1 (unfold isOn in off), cuts-nothing s1 r foreign1),
       accepted-table s (Word r) receive transmit ok ∙ sym (accepted-table s (Mark (r .time)) receive transmit ok-mark),

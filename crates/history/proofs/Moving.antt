@@ -2,10 +2,10 @@
 use mathlib.Core.Path.{_≡_, refl}
 use mathlib.Core.Bool.{true, _&&_}
 use Rattle.records.specs.declared.forms.WordRecord.{WordRecord}
-use Rattle.terminal.specs.States.{noMessage}
+use Rattle.terminal.specs.States.{noMessage, withMessage}
 use Rattle.terminal.specs.Commands.{isOwn}
 use Rattle.terminal.specs.Messages.{isUnderWay, isOn, awaitsData, isNextData, isSecond, isStatusFrom}
-use Rattle.terminal.specs.Rules.{withMessage, faultyOf, rule3, begunOf, rule4, stagedOf, movedOf, nextData, nextWord, rule5, rules3to6}
+use Rattle.terminal.specs.Rules.{faultyOf, rule3, begunOf, rule4, stagedOf, movedOf, nextData, nextWord, rule5, rules3to6}
 use Rattle.terminal.specs.declared.states.Phase.{Phase}
 use Rattle.terminal.specs.declared.states.Phase.the-variants.{Idle, First, Pledged, Data}
 use Rattle.terminal.specs.declared.states.Message.{Message}
@@ -15,7 +15,7 @@ use Rattle.history.proofs.Tests.{cond-cases, and-left}
 -- what a fault, another message and an own command keep, they keep
 module _ {A : Type 0} (part : State → A)
     (faulty : (s : State) → part (faultyOf s) ≡ part s)
-    (moved : (s : State) (m : Message) → part (withMessage s (s .held) m) ≡ part s)
+    (moved : (s : State) (m : Message) → part (withMessage s m) ≡ part s)
     (begun : (s : State) (r : WordRecord) → part (rule4 s r) ≡ part s)
     (s : State) (r : WordRecord) where
   abbrev same : State → Type 0
@@ -29,7 +29,7 @@ module _ {A : Type 0} (part : State → A)
   unfolding nextWord
   next-keeps Idle = refl
   next-keeps Data = data-keeps
-  next-keeps First = cond-cases same (isSecond (s .setup .address) (s .message) r) (λ second. moved s _) (λ other. data-keeps)
+  next-keeps First = cond-cases same (isSecond (s .setup .own) (s .message) r) (λ second. moved s _) (λ other. data-keeps)
   next-keeps (Pledged address) = cond-cases same (isStatusFrom address r) (λ status. moved s _) (λ other. faulty s)
 
   pub rules-keep : same (rules3to6 s r)
@@ -37,7 +37,7 @@ module _ {A : Type 0} (part : State → A)
   rules-keep =
       cond-cases same (rule3 s r) (λ sending. refl)
       (λ quiet.
-      cond-cases same (isOwn (s .setup .address) r) (λ own. begun s r)
+      cond-cases same (isOwn (s .setup .own) r) (λ own. begun s r)
       (λ foreign. cond-cases same (isOn (s .message) (r .bus)) (λ on. next-keeps (s .message .phase)) (λ off. refl)))
 
 -- what holds of no message, and of one with its next word, holds after them; of one that an own command begins, where it holds of that
@@ -56,13 +56,13 @@ module _ (P : Message → Type 0) (none : P noMessage) (r : WordRecord)
   unfolding nextWord faultyOf
   next-holds Idle on = h
   next-holds Data on = data-holds on
-  next-holds First on = cond-cases holds (isSecond (s .setup .address) (s .message) r) (λ second. moved (s .message) _ on h) (λ other. data-holds on)
+  next-holds First on = cond-cases holds (isSecond (s .setup .own) (s .message) r) (λ second. moved (s .message) _ on h) (λ other. data-holds on)
   next-holds (Pledged address) on = cond-cases holds (isStatusFrom address r) (λ from. moved (s .message) _ on h) (λ other. none)
 
-  pub rules-hold : (isOwn (s .setup .address) r ≡ true → P (begunOf r)) → holds (rules3to6 s r)
+  pub rules-hold : (isOwn (s .setup .own) r ≡ true → P (begunOf r)) → holds (rules3to6 s r)
   unfolding rules3to6 rule4 rule5
   rules-hold begun =
       cond-cases holds (rule3 s r) (λ sending. h)
       (λ quiet.
-      cond-cases holds (isOwn (s .setup .address) r) begun
+      cond-cases holds (isOwn (s .setup .own) r) begun
       (λ foreign. cond-cases holds (isOn (s .message) (r .bus)) (λ on. next-holds (s .message .phase) (unfold isOn in search (and-left, on))) (λ off. h)))

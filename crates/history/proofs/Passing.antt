@@ -4,11 +4,11 @@ use Prim.Native.Nat.{ℕ}
 use mathlib.Core.Bool.{Bool, true, false, cond}
 use mathlib.Core.List.{List}
 use Rattle.records.specs.declared.forms.WordRecord.{WordRecord}
-use Rattle.terminal.specs.States.{noMessage}
+use Rattle.terminal.specs.States.{noMessage, atTime}
 use Rattle.terminal.specs.Commands.{isOwn}
 use Rattle.terminal.specs.Messages.{isUnderWay, awaitsData, isDue, isLate}
 use Rattle.terminal.specs.Rules.{settledOf, rule1, faultyOf, rule2}
-use Rattle.terminal.specs.Events.{atTime, passedOf}
+use Rattle.terminal.specs.Events.{passedOf}
 use Rattle.terminal.specs.declared.states.Held.{Held}
 use Rattle.terminal.specs.declared.states.Message.{Message}
 use Rattle.terminal.specs.declared.states.Terminal.{Terminal as State}
@@ -27,7 +27,7 @@ passed-setup s t transmit =
     first = cond-cases same (isDue (s .message) t) (λ due. refl) (λ not-due. refl)
 
 -- so an own command is one before and after them
-pub passed-own : (s : State) (t : ℕ) (transmit : List ℕ) (r : WordRecord) → isOwn (passedOf s t transmit .setup .address) r ≡ isOwn (s .setup .address) r
+pub passed-own : (s : State) (t : ℕ) (transmit : List ℕ) (r : WordRecord) → isOwn (passedOf s t transmit .setup .own) r ≡ isOwn (s .setup .own) r
 passed-own s t transmit r = rw (passed-setup s t transmit)
 
 -- they begin no message: what holds of none and of that under way holds after them

@@ -10,12 +10,12 @@ use borrow.Author.Tests.{leb-true, eqb-true}
 use Rattle.words.specs.Words.{onClock, addressOf}
 use Rattle.records.specs.Records.{inRange}
 use Rattle.records.specs.declared.forms.WordRecord.{WordRecord}
-use Rattle.terminal.specs.States.{freshOf}
+use Rattle.terminal.specs.States.{ownOf, setupOf, freshOf, withHost, withMessage, atTime}
 use Rattle.terminal.specs.Commands.{isOwn}
 use Rattle.terminal.specs.Messages.{isUnderWay, isOn, awaitsData, isDue, isLate, isNextData, isSecond, isStatusFrom}
 use Rattle.terminal.specs.Settling.{sendingOf}
-use Rattle.terminal.specs.Rules.{replyNow, withMessage, settledOf, rule1, faultyOf, rule2, rule3, rule4, stagedOf, movedOf, nextData, nextWord, rule5, rules3to6}
-use Rattle.terminal.specs.Events.{eventOf, happensOf, setUpRefusal, setUpOf, timeOf, isInRange, atTime, passedOf, takenOf, withHost, selftestCleared, restartedOf}
+use Rattle.terminal.specs.Rules.{replyNow, settledOf, rule1, faultyOf, rule2, rule3, rule4, stagedOf, movedOf, nextData, nextWord, rule5, rules3to6}
+use Rattle.terminal.specs.Events.{eventOf, happensOf, setUpRefusal, setUpOf, timeOf, isInRange, passedOf, takenOf, selftestCleared, restartedOf}
 use Rattle.terminal.specs.declared.states.Host.{Host}
 use Rattle.terminal.specs.declared.states.Setup.{Setup}
 use Rattle.terminal.specs.declared.states.Phase.{Phase}
@@ -38,16 +38,16 @@ use Rattle.history.proofs.Waitings.{waiting-later, window-later, waitin
 -- ---- a set-up
 
 -- fresh, with a set-up as it should be
-fresh-sound : (setup : Setup) → setup .address ≤ 30 → length (setup .receive) ≡ 32 → length (setup .transmit) ≡ 32 → Sound (freshOf setup)
+fresh-sound : (setup : Setup) → setup .own .address ≤ 30 → length (setup .receive) ≡ 32 → length (setup .transmit) ≡ 32 → Sound (freshOf setup)
 fresh-sound setup a r t = search (held-fresh, false≢)
 
 -- an accepted set-up is so
-accepted-sound : (setup : Setup) → isSetUp (setup .address) (setup .receive) (setup .transmit) ≡ true → Sound (freshOf setup)
+accepted-sound : (setup : Setup) → isSetUp (setup .own .address) (setup .receive) (setup .transmit) ≡ true → Sound (freshOf setup)
 unfolding setUpRefusal
 accepted-sound setup =
     cond-cases P (eqb (length (setup .receive)) 32 && eqb (length (setup .transmit)) 32)
     (λ tables.
-    cond-cases P (leb (setup .address) 30) (λ small ok. search (fresh-sound, leb-true, eqb-true, and-left, and-right)) (λ e. false≢))
+    cond-cases P (leb (setup .own .address) 30) (λ small ok. search (fresh-sound, leb-true, eqb-true, and-left, and-right)) (λ e. false≢))
     (λ e. false≢)
   where
     P : ℕ → Type 0
@@ -56,7 +56,7 @@ accepted-sound setup =
 -- and so is what it gives
 set-up-sound : (address : ℕ) (receive transmit : List ℕ) → isSetUp address receive transmit ≡ true → Sound (setUpOf address receive transmit .terminal)
 unfolding setUpOf
-set-up-sound address receive transmit ok = rw ok (accepted-sound (record { address = address; receive = receive; transmit = transmit }) ok)
+set-up-sound address receive transmit ok = rw ok (accepted-sound (setupOf (ownOf address) receive transmit) ok)
 
 -- ---- host calls, and how a message goes on or ends
 
@@ -80,8 +80,8 @@ module _ (s : State) (h : Sound s) where
 
   -- with a message that goes on
   message-sound : (m : Message) → isUnderWay (s .message .phase) ≡ true
-      → (Waiting (s .setup .address) (s .time .0) (s .message) → Waiting (s .setup .address) (s .time .0) m)
-      → Sound (withMessage s (s .held) m)
+      → (Waiting (s .setup .own) (s .time .0) (s .message) → Waiting (s .setup .own) (s .time .0) m)
+      → Sound (withMessage s m)
   message-sound m under goes-on =
       let w = goes-on (h .message under) in
       let off = h .alone under in
@@ -98,7 +98,7 @@ module _ (s : State) (h : Sound s) (t : ℕ) (later : s .time .0 ≤ t) (on-cloc
   settled-sound : (transmit : List ℕ) → isDue (s .message) t ≡ true → Sound (atTime (settledOf s transmit) t)
   unfolding settledOf
   settled-sound transmit due =
-      let w = waiting-later (s .time .0) t later (s .setup .address) (s .message) (h .message (due-under-way (s .message) t due)) in
+      let w = waiting-later (s .time .0) t later (s .setup .own) (s .message) (h .message (due-under-way (s .message) t due)) in
       let reached = due-most (s .message) t due in
       let idle : false ≡ true → sendingOf s (replyNow s transmit .count) .on ≡ false = false≢ in
       search (held-settled, window-settled, reply-most, false≢)
@@ -117,18 +117,18 @@ module _ (s : State) (h : Sound s) (t : ℕ) (later : s .time .0 ≤ t) (on-cloc
 
 module _ (s : State) (h : Sound s) (r : WordRecord) (at : r .time .0 ≤ s .time .0) where
   -- after an own command
-  begun-sound : inRange r ≡ true → isOwn (s .setup .address) r ≡ true → Sound (rule4 s r)
+  begun-sound : inRange r ≡ true → isOwn (s .setup .own) r ≡ true → Sound (rule4 s r)
   unfolding rule4 isOwn
   begun-sound ranged own =
-      let to : isTo (s .setup .address) (r .word) ≡ true = search (and-right, own) in
+      let to : isTo (s .setup .own) (r .word) ≡ true = search (and-right, own) in
       search (command-noted, waiting-begun, false≢)
 
   -- after a second command word, and after the status that it asked for
-  moved-sound : (p : Phase) → isOpening (s .message .phase) ≡ true → Sound (withMessage s (s .held) (movedOf (s .message) p r))
+  moved-sound : (p : Phase) → isOpening (s .message .phase) ≡ true → Sound (withMessage s (movedOf (s .message) p r))
   moved-sound p early = search (message-sound s h, opening-under-way, waiting-moved)
 
   -- after the next data word
-  staged-sound : awaitsData (s .message) ≡ true → Sound (withMessage s (s .held) (stagedOf (s .message) r))
+  staged-sound : awaitsData (s .message) ≡ true → Sound (withMessage s (stagedOf (s .message) r))
   staged-sound awaits = search (message-sound s h, awaits-under-way, waiting-staged)
 
   -- after a word where only a data word may come
@@ -143,7 +143,7 @@ module _ (s : State) (h : Sound s) (r : WordRecord) (at : r .time .0 ≤ s .time
   next-sound Idle e = h
   next-sound Data e = data-sound
   next-sound First e =
-      cond-cases Sound (isSecond (s .setup .address) (s .message) r) (λ f. moved-sound (Pledged (addressOf (r .word))) (ap isOpening e))
+      cond-cases Sound (isSecond (s .setup .own) (s .message) r) (λ f. moved-sound (Pledged (addressOf (r .word))) (ap isOpening e))
       (λ f. data-sound)
   next-sound (Pledged address) e = cond-cases Sound (isStatusFrom address r) (λ f. moved-sound Data (ap isOpening e)) (λ f. faulty-sound s h)
 
@@ -153,7 +153,7 @@ module _ (s : State) (h : Sound s) (r : WordRecord) (at : r .time .0 ≤ s .time
   word-sound ranged =
       cond-cases Sound (rule3 s r) (λ e. h)
       (λ e.
-      cond-cases Sound (isOwn (s .setup .address) r) (begun-sound ranged)
+      cond-cases Sound (isOwn (s .setup .own) r) (begun-sound ranged)
       (λ f. cond-cases Sound (isOn (s .message) (r .bus)) (λ g. next-sound (s .message .phase) refl) (λ g. h)))
 
 -- ---- a call, any calls

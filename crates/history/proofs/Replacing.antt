@@ -15,6 +15,7 @@ use Rattle.terminal.specs.Messages.{isSending}
 use Rattle.terminal.specs.Settling.{otherBus}
 use Rattle.terminal.specs.Rules.{rule1Answer, rule1Receive, rule3, notedStatus, notedCommand, rule4, cutsSending, rules3to6}
 use Rattle.terminal.specs.Events.{passedOf, happensOf, eventOf}
+use Rattle.terminal.specs.declared.states.Own.{Own}
 use Rattle.terminal.specs.declared.states.Held.{Held}
 use Rattle.terminal.specs.declared.states.Sending.{Sending}
 use Rattle.terminal.specs.declared.states.Terminal.{Terminal as State}
@@ -42,7 +43,7 @@ unfolding hasFlag
 broadcast-no-error own =
     ap (λ (bit : ℕ). eqb bit 1) (flag-alone BroadcastReceived (statusOf own 0) .1 10 (λ e. omega arith)) ∙ address-no-error own
 
-module _ (own : ℕ) (h : Held) (word : ℕ) where
+module _ (own : Own) (h : Held) (word : ℕ) where
   -- the last command changes no status
   command-noted : notedCommand own h word .status ≡ h .status
   unfolding notedCommand
@@ -58,7 +59,8 @@ module _ (own : ℕ) (h : Held) (word : ℕ) where
       go true e = rw e
       go false e =
           rw e
-          (cond-cases (λ (w : ℕ). hasFlag MessageError w ≡ false) (isBroadcast word) (λ b. broadcast-no-error own) (λ b. address-no-error own))
+          (cond-cases (λ (w : ℕ). hasFlag MessageError w ≡ false) (isBroadcast word) (λ b. broadcast-no-error (own .address))
+          (λ b. address-no-error (own .address)))
 
 -- ---- rule 4
 
@@ -66,7 +68,7 @@ module _ (own : ℕ) (h : Held) (word : ℕ) where
 rule4-begins : (s : State) (r : WordRecord) → Begins s r (rule4 s r)
 unfolding rule4
 rule4-begins s r =
-    let own = s .setup .address in
+    let own = s .setup .own in
     record {
       message = refl;
       sending = refl;
@@ -75,7 +77,7 @@ rule4-begins s r =
 
 -- an accepted own command on a bus on which the terminal is not sending begins its message
 own-begins : (s : State) (r : WordRecord) (receive transmit : List ℕ) → isAccepted s (Word r) receive transmit ≡ true
-    → isOwn (s .setup .address) r ≡ true
+    → isOwn (s .setup .own) r ≡ true
     → rule3 (passedOf s (r .time .0) transmit) r ≡ false
     → Begins (passedOf s (r .time .0) transmit) r (eventOf s (Word r) receive transmit .terminal)
 unfolding happensOf rules3to6
@@ -132,7 +134,7 @@ cuts-own : (s : State) (e : Event) (receive transmit : List ℕ) → isAccepted 
 unfolding happensOf cutsSending
 cuts-own s (Mark t) receive transmit ok h = h
 cuts-own s (Word r) receive transmit ok h =
-    let own : isOwn (s .setup .address) r ≡ true = and-left _ _ (rw (passed-own s (r .time .0) transmit r) at h) in
+    let own : isOwn (s .setup .own) r ≡ true = and-left _ _ (rw (passed-own s (r .time .0) transmit r) at h) in
     rw (ok, own)
 
 -- and nothing that is refused

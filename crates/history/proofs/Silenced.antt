@@ -17,6 +17,7 @@ use Rattle.terminal.specs.Messages.{isUnderWay, isDue}
 use Rattle.terminal.specs.Settling.{isWithheld, noAnswer, storesData, storedOf}
 use Rattle.terminal.specs.Rules.{rule1Receive, faultyOf, begunOf, rule4, stagedOf, movedOf, rules3to6}
 use Rattle.terminal.specs.Events.{timeOf, nothingLegal, setUpRefusal, setUpOf, passedOf, takenOf, eventReceive}
+use Rattle.terminal.specs.declared.states.Own.{Own}
 use Rattle.terminal.specs.declared.states.Message.{Message}
 use Rattle.terminal.specs.declared.states.Setup.{Setup}
 use Rattle.terminal.specs.declared.states.Terminal.{Terminal as State}
@@ -67,19 +68,19 @@ ToAll m = isUnderWay (m .phase) ≡ true → isBroadcast (m .command .0) ≡ tru
 none-to-all : ToAll noMessage
 none-to-all on = false≢ on
 
-own-to-all : (own : ℕ) (r : WordRecord) → 31 ≤ own → isOwn own r ≡ true → isBroadcast (r .word) ≡ true
+own-to-all : (own : Own) (r : WordRecord) → 31 ≤ own .address → isOwn own r ≡ true → isBroadcast (r .word) ≡ true
 unfolding isOwn
 own-to-all own r above is-own =
-    or-cases (eqb (addressOf (r .word)) own) (isBroadcast (r .word)) (search (and-right, is-own))
-    (λ same. eq-eqb (addressOf (r .word)) 31 (omega (arith, above, eqb-true (addressOf (r .word)) own same)))
+    or-cases (eqb (addressOf (r .word)) (own .address)) (isBroadcast (r .word)) (search (and-right, is-own))
+    (λ same. eq-eqb (addressOf (r .word)) 31 (omega (arith, above, eqb-true (addressOf (r .word)) (own .address) same)))
     (λ h. h)
 
-word-to-all : (s : State) (r : WordRecord) → 31 ≤ s .setup .address → ToAll (s .message) → ToAll (rules3to6 s r .message)
+word-to-all : (s : State) (r : WordRecord) → 31 ≤ s .setup .own .address → ToAll (s .message) → ToAll (rules3to6 s r .message)
 unfolding begunOf stagedOf movedOf
 word-to-all s r above h =
-    rules-hold ToAll none-to-all r (λ m under to on. to under) (λ m p under to on. to under) s h (λ own on. own-to-all (s .setup .address) r above own)
+    rules-hold ToAll none-to-all r (λ m under to on. to under) (λ m p under to on. to under) s h (λ own on. own-to-all (s .setup .own) r above own)
 
-event-to-all : (s : State) (e : Event) (transmit : List ℕ) → 31 ≤ s .setup .address → ToAll (s .message)
+event-to-all : (s : State) (e : Event) (transmit : List ℕ) → 31 ≤ s .setup .own .address → ToAll (s .message)
     → ToAll (takenOf (passedOf s (timeOf e) transmit) e .message)
 event-to-all s e transmit above h = go e
   where
@@ -90,7 +91,7 @@ event-to-all s e transmit above h = go e
     go (Mark t) = passed (t .0)
     go (Word r) = word-to-all (passedOf s (r .time .0) transmit) r (rw (passed-setup s (r .time .0) transmit) above) (passed (r .time .0))
 
-call-to-all : (s : State) (k : Call) → 31 ≤ s .setup .address → setsUp k ≡ false → ToAll (s .message) → ToAll (step s k .message)
+call-to-all : (s : State) (k : Call) → 31 ≤ s .setup .own .address → setsUp k ≡ false → ToAll (s .message) → ToAll (step s k .message)
 unfolding step
 call-to-all s (setUp address receive transmit) above unset h = rw unset h
 call-to-all s (event e receive transmit) above unset h = go (isAccepted s e receive transmit) refl
@@ -102,7 +103,7 @@ call-to-all s (host setting) above unset h = h
 call-to-all s clearSelftest above unset h = h
 call-to-all s restart above unset h = none-to-all
 
-run-to-all : (s : State) (ks : List Call) → 31 ≤ s .setup .address → NoSetUp s ks → ToAll (s .message) → ToAll (run s ks .message)
+run-to-all : (s : State) (ks : List Call) → 31 ≤ s .setup .own .address → NoSetUp s ks → ToAll (s .message) → ToAll (run s ks .message)
 unfolding run
 run-to-all s [] above unset h = h
 run-to-all s (k ∷ ks) above unset h =
@@ -157,7 +158,8 @@ refused-silent address receive transmit bad =
 pub fresh-begins : FreshBegins
 unfolding setUpOf setUpRefusal
 fresh-begins setup most receives transmits =
-    let accepted : isSetUp (setup .address) (setup .receive) (setup .transmit) ≡ true = rw (receives, transmits, le-leb (setup .address) 30 most) in
+    let accepted : isSetUp (setup .own .address) (setup .receive) (setup .transmit) ≡ true =
+    rw (receives, transmits, le-leb (setup .own .address) 30 most) in
     (accepted, rw accepted)
 
 set-step : (s : State) (past : Past) → step s (setUp (past .address) (past .receive) (past .transmit)) ≡ setUpOf (past .address) (past .receive) (past .transmit) .terminal

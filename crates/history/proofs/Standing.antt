@@ -7,12 +7,14 @@ use lib.Dec.{eqb}
 use borrow.Author.Tests.{eqb-true}
 use Rattle.words.specs.Words.{addressOf, codeOf, isTransmit, isMode, awaitedOf}
 use Rattle.records.specs.declared.forms.WordRecord.{WordRecord}
+use Rattle.terminal.specs.States.{withStatus, withMessage}
 use Rattle.terminal.specs.Commands.{isOwn, isExempt, isLegal}
 use Rattle.terminal.specs.Messages.{isUnderWay, isOn, awaitsData, isDue, isLate, isNextData, isSecond, isStatusFrom}
 use Rattle.terminal.specs.Settling.{settledStatus}
-use Rattle.terminal.specs.Effects.{withStatus, effectOf, heldAfter}
-use Rattle.terminal.specs.Rules.{withMessage, statusNow, settledOf, rule1, faultyOf, rule2, rule3, notedStatus, notedCommand, begunOf, rule4, stagedOf, movedOf, nextData, nextWord, rule5, rules3to6}
+use Rattle.terminal.specs.Effects.{effectOf, heldAfter}
+use Rattle.terminal.specs.Rules.{statusNow, settledOf, rule1, faultyOf, rule2, rule3, notedStatus, notedCommand, begunOf, rule4, stagedOf, movedOf, nextData, nextWord, rule5, rules3to6}
 use Rattle.terminal.specs.Events.{timeOf, passedOf, takenOf}
+use Rattle.terminal.specs.declared.states.Own.{Own}
 use Rattle.terminal.specs.declared.states.Held.{Held}
 use Rattle.terminal.specs.declared.states.Phase.{Phase}
 use Rattle.terminal.specs.declared.states.Phase.the-variants.{Idle, First, Pledged, Data}
@@ -29,12 +31,12 @@ use Rattle.history.proofs.Steps.{stepped, refused-stays, refusal-keeps}
 
 -- ---- the two exempt commands
 
-exempt-code : (own w : ℕ) → isExempt own w ≡ true → (eqb (codeOf w) 2 || eqb (codeOf w) 18) ≡ true
+exempt-code : (own : Own) (w : ℕ) → isExempt own w ≡ true → (eqb (codeOf w) 2 || eqb (codeOf w) 18) ≡ true
 unfolding isExempt
 exempt-code own w exempt = search (and-right, exempt)
 
 -- their effect is none
-exempt-effect : (own w : ℕ) (h : Held) (bus d : ℕ) → isExempt own w ≡ true → effectOf own h (codeOf w) bus d ≡ h
+exempt-effect : (own : Own) (w : ℕ) (h : Held) (bus d : ℕ) → isExempt own w ≡ true → effectOf own h (codeOf w) bus d ≡ h
 unfolding effectOf
 exempt-effect own w h bus d exempt =
     or-cases (eqb (codeOf w) 2) (eqb (codeOf w) 18) (exempt-code own w exempt)
@@ -42,14 +44,14 @@ exempt-effect own w h bus d exempt =
     (λ eighteen. ap (λ (code : ℕ). effectOf own h code bus d) (eqb-true (codeOf w) 18 eighteen))
 
 -- they await no words
-pub exempt-awaits : (own w : ℕ) → isExempt own w ≡ true → awaitedOf w ≡ 0
+pub exempt-awaits : (own : Own) (w : ℕ) → isExempt own w ≡ true → awaitedOf w ≡ 0
 unfolding isExempt awaitedOf
 exempt-awaits own w exempt =
     let transmits : isTransmit w ≡ true = search (and-left, and-right, exempt) in
     rw transmits
 
 -- they settle the status as it is
-pub exempt-settled : (s : State) (w : ℕ) → isExempt (s .setup .address) w ≡ true → settledStatus s w ≡ s .held .status .0
+pub exempt-settled : (s : State) (w : ℕ) → isExempt (s .setup .own) w ≡ true → settledStatus s w ≡ s .held .status .0
 unfolding settledStatus
 exempt-settled s w exempt = rw exempt
 
@@ -59,7 +61,7 @@ exempt-settled s w exempt = rw exempt
 pub record Standing (setup : Setup) (status : ℕ) (s : State) : Type 0 where
   pub same : s .setup ≡ setup
   pub holds : s .held .status .0 ≡ status
-  pub passing : isUnderWay (s .message .phase) ≡ true → isExempt (setup .address) (s .message .command .0) ≡ true
+  pub passing : isUnderWay (s .message .phase) ≡ true → isExempt (setup .own) (s .message .command .0) ≡ true
 
 module _ {setup : Setup} {status : ℕ} where
   -- an exempt command settled, or made faulty, leaves it
@@ -67,14 +69,14 @@ module _ {setup : Setup} {status : ℕ} where
   unfolding settledOf heldAfter
   settled-stands s transmit st on =
       let w : ℕ = s .message .command .0 in
-      let exempt : isExempt (s .setup .address) w ≡ true = rw (st .same) (st .passing on) in
+      let exempt : isExempt (s .setup .own) w ≡ true = rw (st .same) (st .passing on) in
       let stays : statusNow s ≡ s .held .status .0 = exempt-settled s w exempt in
       let keeps : Held → Type 0 = λ h. h .status .0 ≡ status in
       let noted : Held = withStatus (s .held) (statusNow s) in
       record {
         same = st .same;
         holds = cond-cases keeps (isLegal (s .setup) w && isMode w)
-            (λ acts. ap (λ (h : Held). h .status .0) (exempt-effect (s .setup .address) w noted (s .message .bus) _ exempt) ∙ stays ∙ st .holds)
+            (λ acts. ap (λ (h : Held). h .status .0) (exempt-effect (s .setup .own) w noted (s .message .bus) _ exempt) ∙ stays ∙ st .holds)
             (λ other. stays ∙ st .holds);
         passing = λ h. false≢ h;
       }
@@ -82,7 +84,7 @@ module _ {setup : Setup} {status : ℕ} where
   faulty-stands : (s : State) → Standing setup status s → isUnderWay (s .message .phase) ≡ true → Standing setup status (faultyOf s)
   unfolding faultyOf
   faulty-stands s st on =
-      let exempt : isExempt (s .setup .address) (s .message .command .0) ≡ true = rw (st .same) (st .passing on) in
+      let exempt : isExempt (s .setup .own) (s .message .command .0) ≡ true = rw (st .same) (st .passing on) in
       record { same = st .same; holds = rw exempt (st .holds); passing = λ h. false≢ h }
 
 -- ---- an event
@@ -105,7 +107,7 @@ module _ {setup : Setup} {status : ℕ} where
   next-stands p s r st on = go p
     where
       -- the message with the same command
-      moves : (m : Message) → m .command .0 ≡ s .message .command .0 → Standing setup status (withMessage s (s .held) m)
+      moves : (m : Message) → m .command .0 ≡ s .message .command .0 → Standing setup status (withMessage s m)
       moves m command = record { same = st .same; holds = st .holds; passing = λ h. rw command (st .passing on) }
 
       data-stands : Standing setup status (nextData s r)
@@ -115,16 +117,16 @@ module _ {setup : Setup} {status : ℕ} where
       go : (p : Phase) → Standing setup status (nextWord p s r)
       go Idle = st
       go Data = data-stands
-      go First = cond-cases (Standing setup status) (isSecond (s .setup .address) (s .message) r)
+      go First = cond-cases (Standing setup status) (isSecond (s .setup .own) (s .message) r)
           (λ second. moves (movedOf (s .message) (Pledged (addressOf (r .word))) r) refl) (λ other. data-stands)
       go (Pledged address) = cond-cases (Standing setup status) (isStatusFrom address r)
           (λ from. moves (movedOf (s .message) Data r) refl) (λ other. faulty-stands s st on)
 
   -- an exempt command leaves it, and is under way then
-  begun-stands : (s : State) (r : WordRecord) → Standing setup status s → isExempt (s .setup .address) (r .word) ≡ true → Standing setup status (rule4 s r)
+  begun-stands : (s : State) (r : WordRecord) → Standing setup status s → isExempt (s .setup .own) (r .word) ≡ true → Standing setup status (rule4 s r)
   unfolding rule4 notedStatus notedCommand begunOf
   begun-stands s r st exempt =
-      let own : ℕ = s .setup .address in
+      let own : Own = s .setup .own in
       record {
         same = st .same;
         holds = rw exempt (cond-cases (λ (h : Held). h .status .0 ≡ status) (eqb (codeOf (r .word)) 18) (λ last. st .holds) (λ other. st .holds));
@@ -133,13 +135,13 @@ module _ {setup : Setup} {status : ℕ} where
 
   -- a record that is ignored, or no own command, or an exempt one
   rules-stand : (s : State) (r : WordRecord) → Standing setup status s
-      → (rule3 s r ≡ false → (not (isOwn (s .setup .address) r) || isExempt (s .setup .address) (r .word)) ≡ true)
+      → (rule3 s r ≡ false → (not (isOwn (s .setup .own) r) || isExempt (s .setup .own) (r .word)) ≡ true)
       → Standing setup status (rules3to6 s r)
   unfolding rules3to6 rule5
   rules-stand s r st outside =
       cond-cases (Standing setup status) (rule3 s r) (λ sending. st)
       (λ quiet.
-      cond-cases (Standing setup status) (isOwn (s .setup .address) r)
+      cond-cases (Standing setup status) (isOwn (s .setup .own) r)
       (λ own. begun-stands s r st (rw own at (outside quiet)))
       (λ foreign.
       cond-cases (Standing setup status) (isOn (s .message) (r .bus))
@@ -147,7 +149,7 @@ module _ {setup : Setup} {status : ℕ} where
       (λ off. st)))
 
   pub taken-stands : (s : State) (e : Event) (receive transmit : List ℕ) → Standing setup status s
-      → (ignores s e ≡ false → leavesStatus (setup .address) (event e receive transmit) ≡ true)
+      → (ignores s e ≡ false → leavesStatus (setup .own) (event e receive transmit) ≡ true)
       → Standing setup status (takenOf s e)
   taken-stands s (Mark t) receive transmit st outside = st
   taken-stands s (Word r) receive transmit st outside = rules-stand s r st (λ quiet. rw (st .same) (outside quiet))
@@ -155,7 +157,7 @@ module _ {setup : Setup} {status : ℕ} where
   -- ---- a call, and any calls
 
   pub call-stands : (s : State) (k : Call) → Standing setup status s
-      → (isRefused s k || (isIgnored s k || leavesStatus (s .setup .address) k)) ≡ true
+      → (isRefused s k || (isIgnored s k || leavesStatus (s .setup .own) k)) ≡ true
       → Standing setup status (step s k)
   unfolding step
   call-stands s (event e receive transmit) st outside = go (isAccepted s e receive transmit) refl

@@ -38,11 +38,11 @@ event-time s e receive transmit ok = ap (λ (x : State). x .time .0) (stepped s 
 -- no call that may come sets it back
 time-grows : (s : State) (bus : ℕ) (k : Call) → mayCome s bus k ≡ true → s .time .0 ≤ step s k .time .0
 time-grows s bus k may =
-    or-cases (isRefused s k) (isHarmless (s .setup .address) bus k) may
+    or-cases (isRefused s k) (isHarmless (s .setup .own) bus k) may
     (λ refusal. rw (refusal-keeps s k refusal) (omega arith))
     (λ harmless. go k harmless)
   where
-    go : (k : Call) → isHarmless (s .setup .address) bus k ≡ true → s .time .0 ≤ step s k .time .0
+    go : (k : Call) → isHarmless (s .setup .own) bus k ≡ true → s .time .0 ≤ step s k .time .0
     go (setUp address receive transmit) h = false≢ h
     go (event e receive transmit) h = by (isAccepted s e receive transmit) refl
       where

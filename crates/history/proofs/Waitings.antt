@@ -11,6 +11,7 @@ use Rattle.records.specs.declared.forms.WordRecord.{WordRecord}
 use Rattle.terminal.specs.Messages.{awaitsData}
 use Rattle.terminal.specs.Settling.{isWithheld, sendingOf}
 use Rattle.terminal.specs.Rules.{firstPhase, begunOf, stagedOf, movedOf}
+use Rattle.terminal.specs.declared.states.Own.{Own}
 use Rattle.terminal.specs.declared.states.Phase.{Phase}
 use Rattle.terminal.specs.declared.states.Message.{Message}
 use Rattle.terminal.specs.declared.states.Sending.{Sending}
@@ -23,7 +24,7 @@ use Rattle.history.proofs.Tests.{false≢, cond-cases, and-left, and-ri
 
 module _ (before after : ℕ) (later : before ≤ after) where
   -- a message waits on
-  pub waiting-later : (own : ℕ) (m : Message) → Waiting own before m → Waiting own after m
+  pub waiting-later : (own : Own) (m : Message) → Waiting own before m → Waiting own after m
   waiting-later own m w = let last : m .last .0 ≤ after = omega arith in search
 
   -- a sending has begun
@@ -40,7 +41,7 @@ first-opening word = cond-cases P (isTransmit word) (λ e. false≢) (λ e. cond
     P : Phase → Type 0
     P p = isOpening p ≡ true → (isTransmit word ≡ false) × (isMode word ≡ false)
 
-module _ (own now : ℕ) (r : WordRecord) (at : r .time .0 ≤ now) where
+module _ (own : Own) (now : ℕ) (r : WordRecord) (at : r .time .0 ≤ now) where
   -- begun by an own command
   pub waiting-begun : inRange r ≡ true → isTo own (r .word) ≡ true → Waiting own now (begunOf r)
   unfolding begunOf
@@ -65,7 +66,7 @@ module _ (own now : ℕ) (r : WordRecord) (at : r .time .0 ≤ now) where
 -- ---- the sending of its answer, once it is due
 
 -- it begins at the due time, and has a status word and the data words
-pub window-settled : (s : State) (own t count : ℕ) → Waiting own t (s .message) → s .message .last .0 + dueDistance ≤ t → count ≤ 32
+pub window-settled : (s : State) (own : Own) (t count : ℕ) → Waiting own t (s .message) → s .message .last .0 + dueDistance ≤ t → count ≤ 32
     → sendingOf s count .on ≡ true
     → Window t (sendingOf s count)
 unfolding sendingOf

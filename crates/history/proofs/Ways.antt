@@ -11,13 +11,13 @@ use borrow.Author.Tests.{le-ltb, lt-ltb, lt-leb, eq-eqb, ne-eqb, eqb-false, not-
 use Rattle.words.specs.Words.{dueDistance, spacingMost, commandSync, dataSync, awaitedOf}
 use Rattle.words.proofs.Truth.{and-both}
 use Rattle.records.specs.declared.forms.WordRecord.{WordRecord}
-use Rattle.terminal.specs.States.{noSending}
+use Rattle.terminal.specs.States.{withSelftest, noSending, withMessage, atTime}
 use Rattle.terminal.specs.Commands.{isValidRecord, isOwn}
 use Rattle.terminal.specs.Messages.{isUnderWay, isOn, isCounting, awaitsData, isWhole, isDue, isLate, isSending, isNextData, isSecond}
 use Rattle.terminal.specs.Settling.{noAnswer}
-use Rattle.terminal.specs.Effects.{withSelftest}
-use Rattle.terminal.specs.Rules.{withMessage, rule1Answer, stagedOf, nextData, nextWord, rule5, rules3to6}
-use Rattle.terminal.specs.Events.{timeOf, atTime, passedOf, takenOf, happensOf, eventOf}
+use Rattle.terminal.specs.Rules.{rule1Answer, stagedOf, nextData, nextWord, rule5, rules3to6}
+use Rattle.terminal.specs.Events.{timeOf, passedOf, takenOf, happensOf, eventOf}
+use Rattle.terminal.specs.declared.states.Own.{Own}
 use Rattle.terminal.specs.declared.states.Phase.{Phase}
 use Rattle.terminal.specs.declared.states.Phase.the-variants.{Idle, First, Pledged, Data}
 use Rattle.terminal.specs.declared.states.Message.{Message}
@@ -93,16 +93,16 @@ module _ (begun : State) (m : Message) (s : State) (way : Way begun m s) (bus : 
   passes : (t : ℕ) (transmit : List ℕ) → Rests t → passedOf s t transmit ≡ atTime s t
   passes t transmit rests = still s t transmit (rw (way .message) (rests .0)) (rw (way .message) (rests .1))
 
-  takes : (e : Event) (receive transmit : List ℕ) → isHarmless (s .setup .address) bus (event e receive transmit) ≡ true
+  takes : (e : Event) (receive transmit : List ℕ) → isHarmless (s .setup .own) bus (event e receive transmit) ≡ true
       → takenOf (atTime s (timeOf e)) e ≡ atTime s (timeOf e)
   takes (Mark t) receive transmit harmless = refl
   takes (Word r) receive transmit harmless =
-      let own : Bool = isOwn (s .setup .address) r in
+      let own : Bool = isOwn (s .setup .own) r in
       let parts = and-both (not (eqb (r .bus) bus)) (not own) harmless in
       passed-over (atTime s (r .time .0)) r (not-true own (parts .1)) (off r (parts .0))
 
   event-keeps : (e : Event) (receive transmit : List ℕ) → isAccepted s e receive transmit ≡ true
-      → isHarmless (s .setup .address) bus (event e receive transmit) ≡ true
+      → isHarmless (s .setup .own) bus (event e receive transmit) ≡ true
       → Rests (timeOf e)
       → Way begun m (step s (event e receive transmit))
   event-keeps e receive transmit ok harmless rests =
@@ -124,7 +124,7 @@ module _ (begun : State) (m : Message) (s : State) (way : Way begun m s) (bus : 
       go : (b : Bool) → isAccepted s e receive transmit ≡ b
           → Way begun m (step s (event e receive transmit)) × (eventOf s e receive transmit .answer ≡ noAnswer)
       go true ok =
-          let harmless : isHarmless (s .setup .address) bus (event e receive transmit) ≡ true = rw ok at may in (
+          let harmless : isHarmless (s .setup .own) bus (event e receive transmit) ≡ true = rw ok at may in (
             event-keeps e receive transmit ok harmless (in-time ok),
             still-answer s e receive transmit ok (rw (way .message) (in-time ok .0)),
           )
@@ -143,13 +143,13 @@ module _ (begun : State) (m : Message) (s : State) (way : Way begun m s) (bus : 
 -- ---- a data word moves it on
 
 -- a word with data sync is no command: neither an own one nor a second one
-data-foreign : (own : ℕ) (r : WordRecord) → r .sync ≡ dataSync → isOwn own r ≡ false
+data-foreign : (own : Own) (r : WordRecord) → r .sync ≡ dataSync → isOwn own r ≡ false
 unfolding isOwn
 data-foreign own r sync =
     let no-command : eqb (r .sync) commandSync ≡ false = rw sync in
     rw (no-command, and-false (isValidRecord r))
 
-data-not-second : (own : ℕ) (m : Message) (r : WordRecord) → r .sync ≡ dataSync → isSecond own m r ≡ false
+data-not-second : (own : Own) (m : Message) (r : WordRecord) → r .sync ≡ dataSync → isSecond own m r ≡ false
 unfolding isSecond
 data-not-second own m r sync =
     let no-command : eqb (r .sync) commandSync ≡ false = rw sync in
@@ -158,15 +158,15 @@ data-not-second own m r sync =
 -- rule 5 takes the next data word of a message that counts its words
 rule5-data : (p : Phase) (s : State) (r : WordRecord) → isCounting p ≡ true → r .sync ≡ dataSync → awaitsData (s .message) ≡ true
     → isNextData (s .message) r ≡ true
-    → nextWord p s r ≡ withMessage s (s .held) (stagedOf (s .message) r)
+    → nextWord p s r ≡ withMessage s (stagedOf (s .message) r)
 unfolding nextWord nextData
 rule5-data Idle s r counts sync awaits next = false≢ counts
 rule5-data (Pledged address) s r counts sync awaits next = false≢ counts
 rule5-data Data s r counts sync awaits next = rw (awaits, next)
-rule5-data First s r counts sync awaits next = rw (data-not-second (s .setup .address) (s .message) r sync, awaits, next)
+rule5-data First s r counts sync awaits next = rw (data-not-second (s .setup .own) (s .message) r sync, awaits, next)
 
 -- rules 3 to 6 come to rule 5
-rules-data : (s : State) (r : WordRecord) → isSending (s .sending) (r .bus) (r .time .0) ≡ false → isOwn (s .setup .address) r ≡ false
+rules-data : (s : State) (r : WordRecord) → isSending (s .sending) (r .bus) (r .time .0) ≡ false → isOwn (s .setup .own) r ≡ false
     → isOn (s .message) (r .bus) ≡ true
     → rules3to6 s r ≡ nextWord (s .message .phase) s r
 unfolding rules3to6 rule5
@@ -212,13 +212,13 @@ module _ (begun : State) {m : Message} {s : State} (way : Way begun m s) {bus co
   not-sending : isSending (s .sending) (r .bus) (r .time .0) ≡ false
   not-sending = ap (λ (x : Sending). isSending x (r .bus) (r .time .0)) (way .sending) ∙ (unfold isSending in refl)
 
-  moved : step s (event (Word r) receive transmit) ≡ withMessage (atTime s (r .time .0)) (s .held) (stagedOf (s .message) r)
+  moved : step s (event (Word r) receive transmit) ≡ withMessage (atTime s (r .time .0)) (stagedOf (s .message) r)
   moved =
       let s1 : State = atTime s (r .time .0) in
       let counts : isCounting (s .message .phase) ≡ true = ap (λ (x : Message). isCounting (x .phase)) (way .message) ∙ g .counts in
       stepped s (Word r) receive transmit (next .accepted)
       ∙ ap (λ (x : State). rules3to6 x r) (passes begun m s way bus (g .on) (r .time .0) transmit in-time)
-      ∙ rules-data s1 r not-sending (data-foreign (s .setup .address) r (next .sync)) is-on
+      ∙ rules-data s1 r not-sending (data-foreign (s .setup .own) r (next .sync)) is-on
       ∙ rule5-data (s .message .phase) s1 r counts (next .sync) awaits is-next
 
   pub word-moves : Way begun (stagedOf m r) (step s (event (Word r) receive transmit))

@@ -7,10 +7,11 @@ use borrow.Author.Tests.{not-true}
 use Rattle.words.specs.Words.{withFlag, awaitedOf}
 use Rattle.words.specs.declared.statuses.Flag.the-variants.{MessageError}
 use Rattle.words.proofs.Flags.{flag-alone}
+use Rattle.terminal.specs.States.{atTime}
 use Rattle.terminal.specs.Commands.{isOwn, isExempt}
 use Rattle.terminal.specs.Messages.{isLate}
 use Rattle.terminal.specs.Rules.{faultyOf}
-use Rattle.terminal.specs.Events.{timeOf, atTime, passedOf, takenOf}
+use Rattle.terminal.specs.Events.{timeOf, passedOf, takenOf}
 use Rattle.terminal.specs.declared.states.Setup.{Setup}
 use Rattle.terminal.specs.declared.states.Terminal.{Terminal as State}
 use Rattle.terminal.specs.declared.answers.Answer.{Answer}
@@ -31,13 +32,13 @@ use Rattle.history.proofs.Faults.{late-faulty, bad-faulty, bad-under-wa
 -- ---- the fault
 
 -- a message made faulty, of a command that is not exempt
-faulty-marked : (s : State) → isExempt (s .setup .address) (s .message .command .0) ≡ false
+faulty-marked : (s : State) → isExempt (s .setup .own) (s .message .command .0) ≡ false
     → Standing (s .setup) (withFlag MessageError (s .held .status .0)) (faultyOf s)
 unfolding faultyOf
 faulty-marked s plain = record { same = refl; holds = rw plain; passing = λ h. false≢ h }
 
 -- by its time
-late-marked : (s : State) (t : ℕ) (transmit : List ℕ) → isExempt (s .setup .address) (s .message .command .0) ≡ false → isLate (s .message) t ≡ true
+late-marked : (s : State) (t : ℕ) (transmit : List ℕ) → isExempt (s .setup .own) (s .message .command .0) ≡ false → isLate (s .message) t ≡ true
     → Standing (s .setup) (withFlag MessageError (s .held .status .0)) (passedOf s t transmit)
 unfolding passedOf
 late-marked s t transmit plain late =
@@ -46,7 +47,7 @@ late-marked s t transmit plain late =
     rw (faulty .0, faulty .1) (record { same = st .same; holds = st .holds; passing = st .passing })
 
 -- by a record that comes while it is still under way
-word-marked : (s : State) (e : Event) (transmit : List ℕ) → isExempt (s .setup .address) (s .message .command .0) ≡ false
+word-marked : (s : State) (e : Event) (transmit : List ℕ) → isExempt (s .setup .own) (s .message .command .0) ≡ false
     → hasBadWord (passedOf s (timeOf e) transmit) e ≡ true
     → Standing (s .setup) (withFlag MessageError (s .held .status .0)) (takenOf (passedOf s (timeOf e) transmit) e)
 word-marked s (Mark t) transmit plain bad = false≢ bad
@@ -57,11 +58,11 @@ word-marked s (Word r) transmit plain bad =
 
 -- by either
 event-marks : (s : State) (e : Event) (receive transmit : List ℕ) → isAccepted s e receive transmit ≡ true → marksFault s e transmit ≡ true
-    → leavesStatus (s .setup .address) (event e receive transmit) ≡ true
+    → leavesStatus (s .setup .own) (event e receive transmit) ≡ true
     → Standing (s .setup) (withFlag MessageError (s .held .status .0)) (step s (event e receive transmit))
 event-marks s e receive transmit ok marks outside =
     let x : State = passedOf s (timeOf e) transmit in
-    let exempt : Bool = isExempt (s .setup .address) (s .message .command .0) in
+    let exempt : Bool = isExempt (s .setup .own) (s .message .command .0) in
     let plain : exempt ≡ false = not-true exempt (search (and-left, marks)) in
     let which : (isLate (s .message) (timeOf e) || hasBadWord x e) ≡ true = search (and-left, and-right, marks) in
     rw (stepped s e receive transmit ok)
@@ -72,17 +73,17 @@ event-marks s e receive transmit ok marks outside =
 -- ---- the answer
 
 -- an exempt command is answered with the status that stands
-standing-reported : {setup : Setup} {status : ℕ} (s : State) → Standing setup status s → setup .address ≤ 30 → AnswersWith s status
+standing-reported : {setup : Setup} {status : ℕ} (s : State) → Standing setup status s → setup .own .address ≤ 30 → AnswersWith s status
 standing-reported s st few r receive transmit k exempt ks end course e receive' transmit' ok then =
     let begun : State = step s (event (Word r) receive transmit) in
-    let own : isOwn (s .setup .address) r ≡ true = own-command (s .setup .address) r (k .valid) (k .sync) (k .own) in
+    let own : isOwn (s .setup .own) r ≡ true = own-command (s .setup .own) r (k .valid) (k .sync) (k .own) in
     let k1 : Call = event (Word r) receive transmit in
-    let outside : (isRefused s k1 || (isIgnored s k1 || leavesStatus (s .setup .address) k1)) ≡ true =
+    let outside : (isRefused s k1 || (isIgnored s k1 || leavesStatus (s .setup .own) k1)) ≡ true =
     rw (k .accepted, own, exempt) (or-true (isIgnored s k1)) in
     let next = call-stands s (event (Word r) receive transmit) st outside in
-    let none : 0 ≡ awaitedOf (r .word) = sym (exempt-awaits (s .setup .address) (r .word) exempt) in
+    let none : 0 ≡ awaitedOf (r .word) = sym (exempt-awaits (s .setup .own) (r .word) exempt) in
     let answer = answered s (rw (st .same) few) r receive transmit k [] none ks end course e receive' transmit' ok then .answer in
-    let exempt' : isExempt (begun .setup .address) (r .word) ≡ true = rw (next .same, ← st .same) exempt in
+    let exempt' : isExempt (begun .setup .own) (r .word) ≡ true = rw (next .same, ← st .same) exempt in
     record {
       given = ap (λ (a : Answer). a .given) answer;
       on = ap (λ (a : Answer). a .bus) answer;
@@ -95,7 +96,7 @@ standing-said s st k given =
     let of = given-message s k given in
     of .status ∙ exempt-settled s (s .message .command .0) (rw (st .same) (st .passing (of .under-way))) ∙ st .holds
 
-standing-stands : {setup : Setup} {status : ℕ} (s : State) → Standing setup status s → setup .address ≤ 30 → Stands s status
+standing-stands : {setup : Setup} {status : ℕ} (s : State) → Standing setup status s → setup .own .address ≤ 30 → Stands s status
 standing-stands s st few = record { held = st .holds; says = standing-said s st; answers = standing-reported s st few }
 
 -- ---- the statements

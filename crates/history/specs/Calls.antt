@@ -6,9 +6,10 @@ use mathlib.Core.List.{List, [], _∷_}
 use lib.Dec.{eqb}
 use lib.ListN.{length}
 use Rattle.words.specs.Refusals.{notRefused}
+use Rattle.terminal.specs.States.{withService, withBusy, withSubsystem, withTerminalFault, withVectorWord, withBitWord, withHost}
 use Rattle.terminal.specs.Commands.{isOwn}
 use Rattle.terminal.specs.Settling.{noAnswer}
-use Rattle.terminal.specs.Events.{setUpRefusal, setUpOf, eventRefusal, eventOf, withHost, withService, withBusy, withSubsystem, withTerminalFault, withVectorWord, withBitWord, selftestCleared, restartedOf}
+use Rattle.terminal.specs.Events.{setUpRefusal, setUpOf, eventRefusal, eventOf, selftestCleared, restartedOf}
 use Rattle.terminal.specs.declared.states.Host.{Host}
 use Rattle.terminal.specs.declared.states.Terminal.{Terminal as State}
 use Rattle.terminal.specs.declared.answers.Answer.{Answer}
@@ -108,7 +109,7 @@ setsUp restart = false
 abbrev pub bringsOwn : State → Call → Bool
 bringsOwn s (setUp address receive transmit) = false
 bringsOwn s (event (Mark t) receive transmit) = false
-bringsOwn s (event (Word r) receive transmit) = isAccepted s (Word r) receive transmit && isOwn (s .setup .address) r
+bringsOwn s (event (Word r) receive transmit) = isAccepted s (Word r) receive transmit && isOwn (s .setup .own) r
 bringsOwn s (host setting) = false
 bringsOwn s clearSelftest = false
 bringsOwn s restart = false

@@ -11,6 +11,7 @@ use Rattle.terminal.specs.Messages.{isSending}
 use Rattle.terminal.specs.Settling.{isShut, noAnswer}
 use Rattle.terminal.specs.Rules.{rule1, rule3}
 use Rattle.terminal.specs.Events.{timeOf, passedOf}
+use Rattle.terminal.specs.declared.states.Own.{Own}
 use Rattle.terminal.specs.declared.states.Terminal.{Terminal as State}
 use Rattle.terminal.specs.declared.events.Event.{Event}
 use Rattle.terminal.specs.declared.events.Event.the-variants.{Mark, Word}
@@ -25,7 +26,7 @@ pub record Command (s : State) (r : WordRecord) (receive transmit : List ℕ) : 
   pub valid : isValidRecord r ≡ true
   pub sync : r .sync ≡ commandSync
   -- "to the terminal's own address,"
-  pub own : addressOf (r .word) ≡ s .setup .address
+  pub own : addressOf (r .word) ≡ s .setup .own .address
   -- "on a bus where, once anything already due is settled, it is not sending"
   pub quiet : isSending (rule1 s (r .time .0) transmit .sending) (r .bus) (r .time .0) ≡ false
   -- "and its transmitter is on,"
@@ -44,7 +45,7 @@ pub record NextWord (s : State) (bus last : ℕ) (r : WordRecord) (receive trans
 
 -- "Let nothing more come on that bus before the answer is due, no valid command to it or to all terminals on the other, and no restart by the
 -- host before the answer is carried." A set-up is taken for a restart (DECISIONS 25).
-abbrev pub isHarmless : ℕ → ℕ → Call → Bool
+abbrev pub isHarmless : Own → ℕ → Call → Bool
 isHarmless own bus (setUp address receive transmit) = false
 isHarmless own bus (event (Mark t) receive transmit) = true
 isHarmless own bus (event (Word r) receive transmit) = not (eqb (r .bus) bus) && not (isOwn own r)
@@ -54,7 +55,7 @@ isHarmless own bus restart = false
 
 -- A refused call may always come.
 abbrev pub mayCome : State → ℕ → Call → Bool
-mayCome s bus k = isRefused s k || isHarmless (s .setup .address) bus k
+mayCome s bus k = isRefused s k || isHarmless (s .setup .own) bus k
 
 -- the call is no event of that time or later
 abbrev pub isEarlier : ℕ → Call → Bool
@@ -114,7 +115,7 @@ isIgnored s restart = false
 
 -- Time marks, records that are no own command, the two exempt commands, host calls; no restart and no set-up (DECISIONS 25). Where a message that is
 -- not exempt is under way they may settle it or make it faulty.
-abbrev pub leavesStatus : ℕ → Call → Bool
+abbrev pub leavesStatus : Own → Call → Bool
 leavesStatus own (setUp address receive transmit) = false
 leavesStatus own (event (Mark t) receive transmit) = true
 leavesStatus own (event (Word r) receive transmit) = not (isOwn own r) || isExempt own (r .word)
@@ -124,4 +125,4 @@ leavesStatus own restart = false
 
 abbrev pub AllLeaveStatus : State → List Call → Type 0
 AllLeaveStatus s [] = Unit {0}
-AllLeaveStatus s (k ∷ ks) = ((isRefused s k || (isIgnored s k || leavesStatus (s .setup .address) k)) ≡ true) × AllLeaveStatus (step s k) ks
+AllLeaveStatus s (k ∷ ks) = ((isRefused s k || (isIgnored s k || leavesStatus (s .setup .own) k)) ≡ true) × AllLeaveStatus (step s k) ks

@@ -12,12 +12,12 @@ use lib.Seq.{paste}
 use Rattle.words.specs.Words.{dueDistance, gapOf, addressOf, wordsOf, hasFlag, withFlag, hasNoOther, awaitedOf}
 use Rattle.words.specs.declared.statuses.Flag.the-variants.{MessageError}
 use Rattle.records.specs.declared.forms.WordRecord.{WordRecord}
-use Rattle.terminal.specs.States.{noSending, freshOf}
+use Rattle.terminal.specs.States.{noSending, freshOf, withHost}
 use Rattle.terminal.specs.Commands.{isOwn, isExempt}
 use Rattle.terminal.specs.Messages.{isUnderWay, isSending}
 use Rattle.terminal.specs.Settling.{otherBus, settledStatus, firstPlace, replyOf, storesData, noAnswer}
 use Rattle.terminal.specs.Rules.{begunOf, rule3}
-use Rattle.terminal.specs.Events.{timeOf, setUpRefusal, nothingLegal, setUpOf, eventRefusal, passedOf, refusedOf, eventOf, eventReceive, withHost}
+use Rattle.terminal.specs.Events.{timeOf, setUpRefusal, nothingLegal, setUpOf, eventRefusal, passedOf, refusedOf, eventOf, eventReceive}
 use Rattle.terminal.specs.declared.states.Setup.{Setup}
 use Rattle.terminal.specs.declared.states.Terminal.{Terminal as State}
 use Rattle.terminal.specs.declared.answers.Answer.{Answer}
@@ -96,7 +96,7 @@ AnsweredFrom s =
 
 -- answered: of every terminal with "an own address 0 to 30", whatever else it holds
 abbrev pub Answered : Type 0
-Answered = (s : State) → s .setup .address ≤ 30 → AnsweredFrom s
+Answered = (s : State) → s .setup .own .address ≤ 30 → AnsweredFrom s
 
 -- answered-after-any-past: "After any calls at all"
 abbrev pub AnsweredAfterAnyPast : Type 0
@@ -115,7 +115,7 @@ SameAsMark s r receive transmit =
 abbrev pub AsAMark : Type 0
 AsAMark =
     (s : State) (r : WordRecord) (receive transmit : List ℕ) → isAccepted s (Word r) receive transmit ≡ true
-    → isOwn (s .setup .address) r ≡ false
+    → isOwn (s .setup .own) r ≡ false
     → isUnderWayOn (s .message) (r .bus) ≡ false
     → SameAsMark s r receive transmit
 
@@ -123,7 +123,7 @@ AsAMark =
 abbrev pub AsAMarkOnceSettled : Type 0
 AsAMarkOnceSettled =
     (s : State) (r : WordRecord) (receive transmit : List ℕ) → isAccepted s (Word r) receive transmit ≡ true
-    → isOwn (s .setup .address) r ≡ false
+    → isOwn (s .setup .own) r ≡ false
     → isUnderWayOn (passedOf s (r .time .0) transmit .message) (r .bus) ≡ false
     → SameAsMark s r receive transmit
 
@@ -140,7 +140,7 @@ pub record Reports (a : Answer) (bus status : ℕ) : Type 0 where
 abbrev pub AnswersWith : State → ℕ → Type 0
 AnswersWith s status =
     (r : WordRecord) (receive transmit : List ℕ) → Command s r receive transmit
-    → isExempt (s .setup .address) (r .word) ≡ true
+    → isExempt (s .setup .own) (r .word) ≡ true
     → (ks : List Call) (end : ℕ) → Course (r .bus) (step s (event (Word r) receive transmit)) (r .time .0) [] ks end
     → (e : Event) (receive' transmit' : List ℕ)
     → isAccepted (run (step s (event (Word r) receive transmit)) ks) e receive' transmit' ≡ true
@@ -161,7 +161,7 @@ NoWipeFrom s =
     (e : Event) (receive transmit : List ℕ) → isAccepted s e receive transmit ≡ true
     → marksFault s e transmit ≡ true
     -- and is itself no own command that is not exempt (that one would write the status anew, rule 4);
-    → leavesStatus (s .setup .address) (event e receive transmit) ≡ true
+    → leavesStatus (s .setup .own) (event e receive transmit) ≡ true
     -- then any calls, whatever words come on either bus, but an own command that is neither exempt nor ignored and a restart or set-up:
     → (ks : List Call) → AllLeaveStatus (step s (event e receive transmit)) ks
     -- the stored status is that before the fault, with message error
@@ -170,7 +170,7 @@ NoWipeFrom s =
 
 -- no-wipe: of every terminal with "an own address 0 to 30"
 abbrev pub NoWipe : Type 0
-NoWipe = (s : State) → s .setup .address ≤ 30 → NoWipeFrom s
+NoWipe = (s : State) → s .setup .own .address ≤ 30 → NoWipeFrom s
 
 -- no-wipe-after-any-past
 abbrev pub NoWipeAfterAnyPast : Type 0
@@ -196,7 +196,7 @@ StatusStandsFrom s =
 
 -- status-stands: of every terminal with "an own address 0 to 30"
 abbrev pub StatusStands : Type 0
-StatusStands = (s : State) → s .setup .address ≤ 30 → StatusStandsFrom s
+StatusStands = (s : State) → s .setup .own .address ≤ 30 → StatusStandsFrom s
 
 -- status-stands-after-any-past
 abbrev pub StatusStandsAfterAnyPast : Type 0
@@ -237,14 +237,14 @@ RefusedSilent =
 
 -- fresh-silent: and of `Terminal::fresh` with an own address above 30, which no accepted set-up gives, that it never answers
 abbrev pub FreshSilent : Type 0
-FreshSilent = (setup : Setup) → 31 ≤ setup .address → NeverAnswers (freshOf setup)
+FreshSilent = (setup : Setup) → 31 ≤ setup .own .address → NeverAnswers (freshOf setup)
 
 -- fresh-begins: with an own address up to 30 it is what an accepted set-up gives, and so begins a past;
 abbrev pub FreshBegins : Type 0
 FreshBegins =
-    (setup : Setup) → setup .address ≤ 30 → length (setup .receive) ≡ 32 → length (setup .transmit) ≡ 32
-    → (isSetUp (setup .address) (setup .receive) (setup .transmit) ≡ true)
-    × (freshOf setup ≡ setUpOf (setup .address) (setup .receive) (setup .transmit) .terminal)
+    (setup : Setup) → setup .own .address ≤ 30 → length (setup .receive) ≡ 32 → length (setup .transmit) ≡ 32
+    → (isSetUp (setup .own .address) (setup .receive) (setup .transmit) ≡ true)
+    × (freshOf setup ≡ setUpOf (setup .own .address) (setup .receive) (setup .transmit) .terminal)
 
 -- set-up-begins: and whatever was before it, an accepted set-up begins one; so no calls are left out
 abbrev pub SetUpBegins : Type 0
@@ -267,14 +267,14 @@ pub record Begins (passed : State) (r : WordRecord) (after : State) : Type 0 whe
   pub message : after .message ≡ begunOf r
   pub sending : after .sending ≡ noSending
   pub fault : hasFlag MessageError (after .held .status .0)
-      ≡ (isExempt (passed .setup .address) (r .word) && hasFlag MessageError (passed .held .status .0))
+      ≡ (isExempt (passed .setup .own) (r .word) && hasFlag MessageError (passed .held .status .0))
 
 -- replaced: a message that is still under way once rules 1 and 2 are done, on whichever bus, gets no answer, stores nothing and is no fault (rules 1
 -- and 2 did nothing to it)
 abbrev pub Replaced : Type 0
 Replaced =
     (s : State) (r : WordRecord) (receive transmit : List ℕ) → isAccepted s (Word r) receive transmit ≡ true
-    → isOwn (s .setup .address) r ≡ true
+    → isOwn (s .setup .own) r ≡ true
     → isUnderWay (passedOf s (r .time .0) transmit .message .phase) ≡ true
     → rule3 (passedOf s (r .time .0) transmit) r ≡ false
     → (eventOf s (Word r) receive transmit .answer ≡ noAnswer)
@@ -285,7 +285,7 @@ Replaced =
 abbrev pub Cut : Type 0
 Cut =
     (s : State) (r : WordRecord) (receive transmit : List ℕ) → isAccepted s (Word r) receive transmit ≡ true
-    → isOwn (s .setup .address) r ≡ true
+    → isOwn (s .setup .own) r ≡ true
     → isSending (passedOf s (r .time .0) transmit .sending) (otherBus (r .bus)) (r .time .0) ≡ true
     → (eventOf s (Word r) receive transmit .cut ≡ true)
     × Begins (passedOf s (r .time .0) transmit) r (eventOf s (Word r) receive transmit .terminal)
@@ -294,7 +294,7 @@ Cut =
 abbrev pub CutExactly : Type 0
 CutExactly =
     (s : State) (r : WordRecord) (receive transmit : List ℕ) → isAccepted s (Word r) receive transmit ≡ true
-    → isOwn (s .setup .address) r ≡ true
+    → isOwn (s .setup .own) r ≡ true
     → eventOf s (Word r) receive transmit .cut
     ≡ isSending (passedOf s (r .time .0) transmit .sending) (otherBus (r .bus)) (r .time .0)
 
@@ -312,7 +312,7 @@ Reachable = (past : Past) → Sound (afterPast past)
 abbrev pub AnswersPlain : Type 0
 AnswersPlain =
     (past : Past) (k : Call) → answerIn (afterPast past) k .given ≡ true
-    → (addressOf (answerIn (afterPast past) k .status .0) ≡ afterPast past .setup .address)
+    → (addressOf (answerIn (afterPast past) k .status .0) ≡ afterPast past .setup .own .address)
     × (hasNoOther (answerIn (afterPast past) k .status .0) ≡ true)
 
 -- ==== witness: one history meets every premise of `answered`

@@ -7,7 +7,7 @@ use mathlib.Core.List.{List, [], _∷_, _++_}
 use Rattle.words.specs.Words.{dueDistance, parityOf, commandSync, hasFlag}
 use Rattle.words.specs.declared.statuses.Flag.the-variants.{MessageError}
 use Rattle.records.specs.declared.forms.WordRecord.{WordRecord}
-use Rattle.terminal.specs.States.{freshOf}
+use Rattle.terminal.specs.States.{ownOf, setupOf, freshOf}
 use Rattle.terminal.specs.Commands.{isExempt}
 use Rattle.terminal.specs.Events.{timeOf, eventOf}
 use Rattle.terminal.specs.Cards.{mark, heard, command, dataWord, badWord, isAnswer, zeros}
@@ -60,14 +60,14 @@ meanwhile = hears (badWord 1 3100 0x0003) ∷ []
 -- Every premise is met; the status is the own address with message error, and so is that of the answer, with the last command behind it.
 pub record MarkMet : Type 0 where
   pub set : isSetUp 5 allLegal allLegal ≡ true
-  pub address : benchAfter asking .setup .address ≤ 30
+  pub address : benchAfter asking .setup .own .address ≤ 30
   pub accepted : isAccepted (benchAfter asking) broken zeros zeros ≡ true
   pub marks : marksFault (benchAfter asking) broken zeros ≡ true
-  pub outside : leavesStatus 5 (hears broken) ≡ true
+  pub outside : leavesStatus (ownOf 5) (hears broken) ≡ true
   pub all : AllLeaveStatus (step (benchAfter asking) (hears broken)) aftermath
   pub held : marked .held .status .0 ≡ 0x2C00
   pub asks : Command marked question zeros zeros
-  pub exempt : isExempt 5 (question .word) ≡ true
+  pub exempt : isExempt (ownOf 5) (question .word) ≡ true
   pub runs : Course 0 (step marked (hears (Word question))) 3000 [] meanwhile 3000
   pub taken : isAccepted (run (step marked (hears (Word question))) meanwhile) (mark 3260) zeros zeros ≡ true
   pub then : 3000 + dueDistance ≤ timeOf (mark 3260)
@@ -154,7 +154,7 @@ untold =
 
 -- a terminal of address 31, which no accepted set-up gives, with such a fault and such a question
 unfoldable pub markedAtAll : State
-markedAtAll = run (freshOf (record { address = 31; receive = allLegal; transmit = allLegal }))
+markedAtAll = run (freshOf (setupOf (ownOf 31) allLegal allLegal))
     (hears (command 0 1000 0xF842) ∷ hears broken ∷ hears (command 0 3000 0xFC12) ∷ [])
 
 -- the event before the due time; the event not accepted, for a table too short; the address 31

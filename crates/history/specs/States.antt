@@ -11,6 +11,7 @@ use Rattle.terminal.specs.Commands.{isOwn, isExempt}
 use Rattle.terminal.specs.Messages.{isUnderWay, awaitsData, isLate, isNextData, isSecond, isStatusFrom}
 use Rattle.terminal.specs.Rules.{rule1, faultyOf, rule2, rule3}
 use Rattle.terminal.specs.Events.{timeOf, passedOf, takenOf}
+use Rattle.terminal.specs.declared.states.Own.{Own}
 use Rattle.terminal.specs.declared.states.Held.{Held}
 use Rattle.terminal.specs.declared.states.Phase.{Phase}
 use Rattle.terminal.specs.declared.states.Phase.the-variants.{Idle, First, Pledged, Data}
@@ -30,13 +31,13 @@ isUnderWayOn m bus = isUnderWay (m .phase) && eqb (m .bus) bus
 abbrev pub isNextWord : Phase → State → WordRecord → Bool
 isNextWord Idle s r = true
 isNextWord Data s r = awaitsData (s .message) && isNextData (s .message) r
-isNextWord First s r = isSecond (s .setup .address) (s .message) r || (awaitsData (s .message) && isNextData (s .message) r)
+isNextWord First s r = isSecond (s .setup .own) (s .message) r || (awaitsData (s .message) && isNextData (s .message) r)
 isNextWord (Pledged address) s r = isStatusFrom address r
 
 -- "Otherwise the message is faulty, also when all its words had come."
 abbrev pub isBadWord : State → WordRecord → Bool
 isBadWord s r =
-    not (rule3 s r) && not (isOwn (s .setup .address) r) && isUnderWayOn (s .message) (r .bus) && not (isNextWord (s .message .phase) s r)
+    not (rule3 s r) && not (isOwn (s .setup .own) r) && isUnderWayOn (s .message) (r .bus) && not (isNextWord (s .message .phase) s r)
 
 -- an event brings such a word
 abbrev pub hasBadWord : State → Event → Bool
@@ -46,13 +47,13 @@ hasBadWord s (Word r) = isBadWord s r
 -- An event marks a fault: by its time, rule 2, or by its word, rule 5; "(not for the two exempt commands)".
 abbrev pub marksFault : State → Event → List ℕ → Bool
 marksFault s e transmit =
-    not (isExempt (s .setup .address) (s .message .command .0))
+    not (isExempt (s .setup .own) (s .message .command .0))
     && (isLate (s .message) (timeOf e) || hasBadWord (passedOf s (timeOf e) transmit) e)
 
 -- A message under way is made faulty, of a command that is not exempt: what comes of the state is `faultyOf` of it.
 pub record MadeFaulty (s next : State) : Type 0 where
   pub under-way : isUnderWay (s .message .phase) ≡ true
-  pub marked : isExempt (s .setup .address) (s .message .command .0) ≡ false
+  pub marked : isExempt (s .setup .own) (s .message .command .0) ≡ false
   pub faulty : next ≡ faultyOf s
 
 -- The rules of an event come to it: rule 2 at its time, once rule 1 is done, or its record, once rules 1 and 2 are done.
@@ -64,13 +65,13 @@ pub data ComesToFault (s : State) (e : Event) (transmit : List ℕ) : Type 0 whe
 
 -- nothing is under way but one of the two exempt commands; it may be sending
 abbrev pub AtRest : State → Type 0
-AtRest s = isUnderWay (s .message .phase) ≡ true → isExempt (s .setup .address) (s .message .command .0) ≡ true
+AtRest s = isUnderWay (s .message .phase) ≡ true → isExempt (s .setup .own) (s .message .command .0) ≡ true
 
 -- ---- what can be reached
 
 -- a command "to the own address or 31"
-abbrev pub isTo : ℕ → ℕ → Bool
-isTo own word = eqb (addressOf word) own || isBroadcast word
+abbrev pub isTo : Own → ℕ → Bool
+isTo own word = eqb (addressOf word) (own .address) || isBroadcast word
 
 -- before the first data word of a message, while a second command word may come or a status is awaited
 abbrev pub isOpening : Phase → Bool
@@ -80,10 +81,10 @@ isOpening (Pledged address) = true
 isOpening Data = false
 
 -- what is held, by a terminal of that own address
-pub record Holding (own : ℕ) (h : Held) : Type 0 where
+pub record Holding (own : Own) (h : Held) : Type 0 where
   -- the stored status has the own address and none of the bits 02E2: "instrumentation 0200 (always 0), .. reserved 00E0 (0), .. bus control
   -- acceptance 0002 (always 0, house)"
-  pub status : addressOf (h .status .0) ≡ own
+  pub status : addressOf (h .status .0) ≡ own .address
   pub spare : hasNoOther (h .status .0) ≡ true
   -- the last command is an own one or 0
   pub command : (eqb (h .command .0) 0 || isTo own (h .command .0)) ≡ true
@@ -91,7 +92,7 @@ pub record Holding (own : ℕ) (h : Held) : Type 0 where
   pub shut : length (h .shut) ≡ 2
 
 -- a message under way, of a terminal of that own address whose last event had that time
-pub record Waiting (own now : ℕ) (m : Message) : Type 0 where
+pub record Waiting (own : Own) (now : ℕ) (m : Message) : Type 0 where
   -- "bus (1: 0 is A, 1 is B)"
   pub bus : m .bus ≤ 1
   -- begun by an own command
@@ -115,13 +116,13 @@ pub record Window (now : ℕ) (w : Sending) : Type 0 where
 
 pub record Sound (s : State) : Type 0 where
   -- "an own address 0 to 30 and two tables of 32 masks"
-  pub address : s .setup .address ≤ 30
+  pub address : s .setup .own .address ≤ 30
   pub receive : length (s .setup .receive) ≡ 32
   pub transmit : length (s .setup .transmit) ≡ 32
   -- "0 to 2^48 - 1"
   pub time : onClock (s .time .0) ≡ true
-  pub held : Holding (s .setup .address) (s .held)
-  pub message : isUnderWay (s .message .phase) ≡ true → Waiting (s .setup .address) (s .time .0) (s .message)
+  pub held : Holding (s .setup .own) (s .held)
+  pub message : isUnderWay (s .message .phase) ≡ true → Waiting (s .setup .own) (s .time .0) (s .message)
   pub sending : s .sending .on ≡ true → Window (s .time .0) (s .sending)
   -- an own command ends any sending
   pub alone : isUnderWay (s .message .phase) ≡ true → s .sending .on ≡ false

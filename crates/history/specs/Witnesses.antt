@@ -7,7 +7,7 @@ use mathlib.Core.List.{List, [], _∷_, _++_}
 use lib.ListN.{length, replicate}
 use Rattle.words.specs.Words.{dueDistance, parityOf, commandSync, awaitedOf}
 use Rattle.records.specs.declared.forms.WordRecord.{WordRecord}
-use Rattle.terminal.specs.States.{freshOf}
+use Rattle.terminal.specs.States.{ownOf, setupOf, freshOf}
 use Rattle.terminal.specs.Events.{timeOf, setUpOf, eventOf}
 use Rattle.terminal.specs.Cards.{mark, heard, command, dataWord, badWord, zeros}
 use Rattle.terminal.specs.declared.states.Terminal.{Terminal as State}
@@ -81,7 +81,7 @@ first = command 1 9000 0x2C02
 -- Every premise is met, and the event carries the answer.
 pub record Met : Type 0 where
   pub set : isSetUp 5 allLegal allLegal ≡ true
-  pub address : benchAfter past .setup .address ≤ 30
+  pub address : benchAfter past .setup .own .address ≤ 30
   pub asks : Command (benchAfter past) asked zeros zeros
   pub count : length sent ≡ awaitedOf (asked .word)
   pub runs : Course 0 begun 1000 sent noise 1400
@@ -153,7 +153,7 @@ losses =
 
 -- a terminal of address 31, which no accepted set-up gives, with such a message
 unfoldable pub atAll : State
-atAll = run (freshOf (record { address = 31; receive = allLegal; transmit = allLegal }))
+atAll = run (freshOf (setupOf (ownOf 31) allLegal allLegal))
     (hears (command 0 1000 0xF842) ∷ itsData)
 
 -- the event before the due time; the event not accepted, for a table too short; the address 31

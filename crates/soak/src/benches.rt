@@ -64,11 +64,7 @@ fn lend(terminal: Terminal, call: Lending, receive: &mut [u16], transmit: &[u16]
 impl Bench {
     // "The first call is a set-up that is accepted, so the terminal before it does not matter."
     pub(crate) fn start() -> Bench {
-        let setup = Setup {
-            address: 0,
-            receive: [0; 32],
-            transmit: [0; 32],
-        };
+        let setup = Setup::build(0, [0; 32], [0; 32]);
         let terminal = Terminal::fresh(setup);
         Bench {
             terminal,

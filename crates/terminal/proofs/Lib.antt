@@ -1,8 +1,10 @@
 pub mod Accepted
+pub mod Awaited
 pub mod Bench
 pub mod Copies
 pub mod Counts
-pub mod Phases
+pub mod Happenings
+pub mod Meanings
 pub mod Places
 pub mod Spans
 pub mod Works

@@ -1,88 +1,51 @@
--- Rules 2 to 6 read only the own address and the work, and change only the work. Assumes nothing.
-use mathlib.Core.Path.{_≡_, refl, ap, _∙_}
-use mathlib.Core.Bool.{Bool, true, false, cond, _&&_}
+-- Rules 1 and 2 as the code goes about them: they change only the work, and what is settled is never late. Assumes nothing.
+use mathlib.Core.Path.{_≡_, refl, sym, ap, _∙_}
+use mathlib.Core.Bool.{Bool, true, false, cond}
 use mathlib.Core.List.{List}
 use Prim.Native.Nat.{ℕ}
-use Rattle.records.specs.declared.forms.WordRecord.{WordRecord}
-use Rattle.terminal.specs.Commands.{isOwn}
-use Rattle.terminal.specs.Messages.{isOn, awaitsData, isDue, isLate, isNextData, isSecond, isStatusFrom}
-use Rattle.terminal.specs.Rules.{settledOf, rule1, faultyOf, rule2, rule3, rule4, cutsSending, nextData, nextWord, rule5, rules3to6}
-use Rattle.terminal.specs.Events.{atTime, passedOf, takenOf, cutOf}
+use Rattle.terminal.specs.States.{atTime}
+use Rattle.terminal.specs.Messages.{awaitsData, isDue, isLate}
+use Rattle.terminal.specs.Rules.{settledOf, rule1, faultyOf, rule2}
+use Rattle.terminal.specs.Events.{passedOf}
 use Rattle.terminal.specs.Works.{workOf, withWork, bareOf}
-use Rattle.terminal.specs.declared.states.Phase.{Phase}
-use Rattle.terminal.specs.declared.states.Phase.the-variants.{Idle, First, Pledged, Data}
 use Rattle.terminal.specs.declared.states.Work.{Work}
 use Rattle.terminal.specs.declared.states.Terminal.{Terminal as State}
-use Rattle.terminal.specs.declared.events.Event.{Event}
-use Rattle.terminal.specs.declared.events.Event.the-variants.{Mark, Word}
 
--- the bare state that has this one's address and work
-abbrev bare : State → State
-bare s = bareOf (s .setup .address) (workOf s)
+-- the one state is the other with its own work
+abbrev Framed : State → State → Type 0
+Framed s x = x ≡ withWork s (workOf x)
 
--- the one state is the first with the other's work
-abbrev Framed : State → State → State → Type 0
-Framed s x y = x ≡ withWork s (workOf y)
+either : (s : State) (b : Bool) (x y : State) → Framed s x → Framed s y → Framed s (cond b x y)
+either s true x y p q = p
+either s false x y p q = q
 
-either : (s : State) (b : Bool) (x y v w : State) → Framed s x v → Framed s y w → Framed s (cond b x y) (cond b v w)
-either s true x y v w p q = p
-either s false x y v w p q = q
-
-faulty-framed : (s : State) → Framed s (faultyOf s) (faultyOf (bare s))
-unfolding faultyOf
-faulty-framed s = refl
-
-rule2-framed : (s : State) (t : ℕ) → Framed s (rule2 s t) (rule2 (bare s) t)
-unfolding rule2
-rule2-framed s t = either s (isLate (s .message) t) _ _ _ _ (faulty-framed s) refl
-
-rule4-framed : (s : State) (r : WordRecord) → Framed s (rule4 s r) (rule4 (bare s) r)
-unfolding rule4
-rule4-framed s r = refl
-
-next-data-framed : (s : State) (r : WordRecord) → Framed s (nextData s r) (nextData (bare s) r)
-unfolding nextData
-next-data-framed s r = either s (awaitsData (s .message) && isNextData (s .message) r) _ _ _ _ refl (faulty-framed s)
-
-next-word-framed : (p : Phase) (s : State) (r : WordRecord) → Framed s (nextWord p s r) (nextWord p (bare s) r)
-unfolding nextWord
-next-word-framed Idle s r = refl
-next-word-framed Data s r = next-data-framed s r
-next-word-framed First s r = either s (isSecond (s .setup .address) (s .message) r) _ _ _ _ refl (next-data-framed s r)
-next-word-framed (Pledged address) s r = either s (isStatusFrom address r) _ _ _ _ refl (faulty-framed s)
-
-rule5-framed : (s : State) (r : WordRecord) → Framed s (rule5 s r) (rule5 (bare s) r)
-unfolding rule5
-rule5-framed s r = next-word-framed (s .message .phase) s r
-
-rules3to6-framed : (s : State) (r : WordRecord) → Framed s (rules3to6 s r) (rules3to6 (bare s) r)
-unfolding rules3to6
-rules3to6-framed s r =
-    either s (rule3 s r) _ _ _ _ refl
-    (either s (isOwn (s .setup .address) r) _ _ _ _ (rule4-framed s r) (either s (isOn (s .message) (r .bus)) _ _ _ _ (rule5-framed s r) refl))
-
-taken-framed : (s : State) (e : Event) → Framed s (takenOf s e) (takenOf (bare s) e)
-taken-framed s (Mark t) = refl
-taken-framed s (Word r) = rules3to6-framed s r
-
-rule1-framed : (s : State) (t : ℕ) (transmit : List ℕ) → Framed s (rule1 s t transmit) (rule1 s t transmit)
+rule1-framed : (s : State) (t : ℕ) (transmit : List ℕ) → Framed s (rule1 s t transmit)
 unfolding rule1 settledOf
-rule1-framed s t transmit = either s (isDue (s .message) t) _ _ _ _ refl refl
+rule1-framed s t transmit = either s (isDue (s .message) t) _ _ refl refl
 
--- The work after rules 1 and 2, as the code has it.
-abbrev pub passedWork : State → ℕ → List ℕ → Work
-passedWork s t transmit = workOf (rule2 (bareOf (s .setup .address) (workOf (rule1 s t transmit))) t)
+rule2-framed : (s : State) (w : Work) (t : ℕ) → Framed s (rule2 (withWork s w) t)
+unfolding rule2 faultyOf
+rule2-framed s w t = either s (isLate (w .message) t) _ _ refl refl
 
-pub passed : (s : State) (t : ℕ) (transmit : List ℕ) → passedOf s t transmit ≡ atTime (withWork s (passedWork s t transmit)) t
+pub passed-framed : (s : State) (t : ℕ) (transmit : List ℕ) → passedOf s t transmit ≡ atTime (withWork s (workOf (passedOf s t transmit))) t
 unfolding passedOf
-passed s t transmit =
-    ap (λ (x : State). atTime (rule2 x t) t) (rule1-framed s t transmit)
-    ∙ ap (λ (x : State). atTime x t) (rule2-framed (withWork s (workOf (rule1 s t transmit))) t)
+passed-framed s t transmit =
+    let framed = rule1-framed s t transmit in
+    ap (λ (x : State). atTime (rule2 x t) t) framed
+    ∙ ap (λ (x : State). atTime x t) (rule2-framed s (workOf (rule1 s t transmit)) t)
+    ∙ sym (ap (λ (x : State). atTime (withWork s (workOf (rule2 x t))) t) framed)
 
-pub taken-after : (s : State) (w : Work) (t : ℕ) (e : Event) → takenOf (atTime (withWork s w) t) e ≡ atTime (withWork s (workOf (takenOf (bareOf (s .setup .address) w) e))) t
-taken-after s w t e = taken-framed (atTime (withWork s w) t) e
+-- what is settled is under way no more
+pub passed-settled : (s : State) (t : ℕ) (transmit : List ℕ) → isDue (s .message) t ≡ true → workOf (passedOf s t transmit) ≡ workOf (settledOf s transmit)
+unfolding passedOf rule1 rule2 settledOf isLate awaitsData
+passed-settled s t transmit due = ap (λ (b : Bool). workOf (rule2 (cond b (settledOf s transmit) s) t)) due
 
-pub cut-after : (s : State) (w : Work) (t : ℕ) (e : Event) → cutOf (atTime (withWork s w) t) e ≡ cutOf (bareOf (s .setup .address) w) e
-unfolding cutsSending
-cut-after s w t (Mark _) = refl
-cut-after s w t (Word r) = refl
+same-work : (b : Bool) (x y v w : State) → workOf x ≡ workOf v → workOf y ≡ workOf w → workOf (cond b x y) ≡ workOf (cond b v w)
+same-work true x y v w p q = p
+same-work false x y v w p q = q
+
+-- and where nothing is due rule 2 reads no more than the own address and the work
+pub passed-waiting : (s : State) (t : ℕ) (transmit : List ℕ) → isDue (s .message) t ≡ false → workOf (passedOf s t transmit) ≡ workOf (rule2 (bareOf (s .setup .own) (workOf s)) t)
+unfolding passedOf rule1 rule2 faultyOf
+passed-waiting s t transmit due =
+    ap (λ (b : Bool). workOf (rule2 (cond b (settledOf s transmit) s) t)) due ∙ same-work (isLate (s .message) t) _ _ _ _ refl refl

@@ -8,7 +8,7 @@ use lib.ListN.{length, getD, replicate}
 use Rattle.words.specs.Words.{parityOf, commandSync, dataSync}
 use Rattle.words.specs.Cards.{wordCards}
 use Rattle.words.specs.Cards as words
-use Rattle.terminal.specs.States.{freshOf}
+use Rattle.terminal.specs.States.{ownOf, setupOf, freshOf}
 use Rattle.terminal.specs.Events.{eventOf, eventReceive}
 use Rattle.terminal.specs.declared.states.Terminal.{Terminal as State}
 use Rattle.terminal.specs.declared.answers.Answer.{Answer}
@@ -71,7 +71,7 @@ steps s receive (holds place w ∷ rest) = eqb (getD receive place 0) w && steps
 
 -- "Address 5, all legal, fresh"
 unfoldable pub benchTerminal : State
-benchTerminal = freshOf (record { address = 5; receive = replicate 32 (2 ^ 32 - 1); transmit = replicate 32 (2 ^ 32 - 1) })
+benchTerminal = freshOf (setupOf (ownOf 5) (replicate 32 (2 ^ 32 - 1)) (replicate 32 (2 ^ 32 - 1)))
 
 unfoldable pub cardHolds : Card → Bool
 cardHolds (word c) = words.holds c

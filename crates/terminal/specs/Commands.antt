@@ -7,6 +7,7 @@ use Rattle.words.specs.Words.{addressOf, subaddressOf, countOf, codeOf, isTrans
 use Rattle.words.specs.Modes.{isAllowed}
 use Rattle.words.specs.Masks.{maskAllows}
 use Rattle.records.specs.declared.forms.WordRecord.{WordRecord}
+use Rattle.terminal.specs.declared.states.Own.{Own}
 use Rattle.terminal.specs.declared.states.Setup.{Setup}
 
 -- "A word is valid if .." (01 Time and words), of a record.
@@ -14,13 +15,13 @@ abbrev pub isValidRecord : WordRecord → Bool
 isValidRecord r = isValid (r .sync) (r .faults) (r .word) (r .parity)
 
 -- ""Own command" means a valid word with command sync to the own address or 31."
-unfoldable pub isOwn : ℕ → WordRecord → Bool
-isOwn own r = isValidRecord r && eqb (r .sync) commandSync && (eqb (addressOf (r .word)) own || isBroadcast (r .word))
+unfoldable pub isOwn : Own → WordRecord → Bool
+isOwn own r = isValidRecord r && eqb (r .sync) commandSync && (eqb (addressOf (r .word)) (own .address) || isBroadcast (r .word))
 
 -- "Transmit status word and transmit last command (to the own address)": the two exempt commands, whatever a mask says (DECISIONS 2).
 -- (003 7.3.3.5.4, 002 2.6.5)
-unfoldable pub isExempt : ℕ → ℕ → Bool
-isExempt own word = eqb (addressOf word) own && isTransmit word && isMode word && (eqb (codeOf word) 2 || eqb (codeOf word) 18)
+unfoldable pub isExempt : Own → ℕ → Bool
+isExempt own word = eqb (addressOf word) (own .address) && isTransmit word && isMode word && (eqb (codeOf word) 2 || eqb (codeOf word) 18)
 
 -- "two tables of 32 masks: bit n of the mask of a subaddress says that count code n is legal, one table for receive (broadcast too), one for
 -- transmit"

@@ -1,44 +1,20 @@
 -- Document 01, "The terminal": "Effects come after the answer is composed". Assumes nothing.
 use Prim.Native.Nat.{ℕ}
-use mathlib.Core.Bool.{Bool, true, false, cond, _&&_}
+use mathlib.Core.Bool.{true, false, cond, _&&_}
 use lib.Dec.{eqb}
-use lib.ListN.{getD, set}
+use lib.ListN.{getD}
 use Rattle.words.specs.Words.{codeOf, isMode}
-use Rattle.terminal.specs.States.{freshHeld}
+use Rattle.terminal.specs.States.{freshHeld, withStatus, withSyncWord, withSelftest, withInhibit, withShut}
 use Rattle.terminal.specs.Commands.{isLegal}
 use Rattle.terminal.specs.Settling.{otherBus}
+use Rattle.terminal.specs.declared.states.Own.{Own}
 use Rattle.terminal.specs.declared.states.Held.{Held}
 use Rattle.terminal.specs.declared.states.Terminal.{Terminal as State}
-
--- What is held, with one part changed.
-abbrev pub withStatus : Held → ℕ → Held
-withStatus h status =
-    record { status = record { 0 = status }; command = h .command; syncword = h .syncword; selftest = h .selftest; inhibit = h .inhibit; shut = h .shut }
-
-abbrev pub withCommand : Held → ℕ → Held
-withCommand h word =
-    record { status = h .status; command = record { 0 = word }; syncword = h .syncword; selftest = h .selftest; inhibit = h .inhibit; shut = h .shut }
-
-abbrev pub withSyncWord : Held → ℕ → Held
-withSyncWord h word =
-    record { status = h .status; command = h .command; syncword = word; selftest = h .selftest; inhibit = h .inhibit; shut = h .shut }
-
-abbrev pub withSelftest : Held → Bool → Held
-withSelftest h on =
-    record { status = h .status; command = h .command; syncword = h .syncword; selftest = on; inhibit = h .inhibit; shut = h .shut }
-
-abbrev pub withInhibit : Held → Bool → Held
-withInhibit h on =
-    record { status = h .status; command = h .command; syncword = h .syncword; selftest = h .selftest; inhibit = on; shut = h .shut }
-
-abbrev pub withShut : Held → ℕ → Bool → Held
-withShut h bus on =
-    record { status = h .status; command = h .command; syncword = h .syncword; selftest = h .selftest; inhibit = h .inhibit; shut = set (h .shut) bus on }
 
 -- "4 shuts the other bus, 5 opens it; 6 inhibits the terminal flag, 7 allows it again; 1 sets the sync word to 0, 17 to its data; 3 sets the
 -- self-test request; 8 and restart give the fresh state, host flags and words kept." Departs from 002 2.4.7.7 and 2.4.7.8, which inhibit and
 -- allow before the answer. (003 7.3.3.5.1.7)
-unfoldable pub effectOf : ℕ → Held → ℕ → ℕ → ℕ → Held
+unfoldable pub effectOf : Own → Held → ℕ → ℕ → ℕ → Held
 effectOf own h code bus word =
     cond (eqb code 1) (withSyncWord h 0)
     (cond (eqb code 3) (withSelftest h true)
@@ -54,5 +30,5 @@ effectOf own h code bus word =
 unfoldable pub heldAfter : State → ℕ → Held
 heldAfter s status =
     cond (isLegal (s .setup) (s .message .command .0) && isMode (s .message .command .0))
-    (effectOf (s .setup .address) (withStatus (s .held) status) (codeOf (s .message .command .0)) (s .message .bus) (getD (s .message .words) 0 0))
+    (effectOf (s .setup .own) (withStatus (s .held) status) (codeOf (s .message .command .0)) (s .message .bus) (getD (s .message .words) 0 0))
     (withStatus (s .held) status)

@@ -7,12 +7,10 @@ use lib.ListN.{length, replicate}
 use Rattle.words.specs.Words.{onClock, plusOf, dueDistance}
 use Rattle.words.specs.Refusals.{notRefused, refusedTableSize, refusedOwnAddress, refusedOutOfRange, refusedOutOfOrder}
 use Rattle.records.specs.Records.{inRange}
-use Rattle.terminal.specs.States.{noMessage, noSending, freshHeld, freshOf}
+use Rattle.terminal.specs.States.{ownOf, setupOf, freshHeld, withSelftest, noMessage, noSending, freshOf, withHeld, withMessage, withSending, atTime}
 use Rattle.terminal.specs.Messages.{awaitsData, isWhole}
 use Rattle.terminal.specs.Settling.{noAnswer}
-use Rattle.terminal.specs.Effects.{withSelftest}
 use Rattle.terminal.specs.Rules.{rule1, rule1Answer, rule1Receive, rule2, rules3to6, cutsSending}
-use Rattle.terminal.specs.declared.states.Host.{Host}
 use Rattle.terminal.specs.declared.states.Message.{Message}
 use Rattle.terminal.specs.declared.states.Setup.{Setup}
 use Rattle.terminal.specs.declared.states.Terminal.{Terminal as State}
@@ -33,12 +31,12 @@ setUpRefusal address receive transmit =
 
 -- The terminal that a refused set-up gives: address 31, nothing legal, so that it never answers (house, DECISIONS 18).
 abbrev pub nothingLegal : Setup
-nothingLegal = record { address = 31; receive = replicate 32 0; transmit = replicate 32 0 }
+nothingLegal = setupOf (ownOf 31) (replicate 32 0) (replicate 32 0)
 
 unfoldable pub setUpOf : ℕ → List ℕ → List ℕ → SetUp
 setUpOf address receive transmit =
     cond (eqb (setUpRefusal address (length receive) (length transmit)) notRefused)
-    (record { refusal = record { 0 = notRefused }; terminal = freshOf (record { address = address; receive = receive; transmit = transmit }) })
+    (record { refusal = record { 0 = notRefused }; terminal = freshOf (setupOf (ownOf address) receive transmit) })
     (record { refusal = record { 0 = setUpRefusal address (length receive) (length transmit) }; terminal = freshOf nothingLegal })
 
 -- ---- an event
@@ -59,11 +57,6 @@ eventRefusal s e receive transmit =
     cond (eqb receive 1024 && eqb transmit 1024)
     (cond (isInRange e) (cond (leb (s .time .0) (timeOf e)) notRefused refusedOutOfOrder) refusedOutOfRange)
     refusedTableSize
-
--- The state at a time.
-abbrev pub atTime : State → ℕ → State
-atTime s t =
-    record { setup = s .setup; host = s .host; held = s .held; message = s .message; sending = s .sending; time = record { 0 = t } }
 
 -- The state at the event's time, rules 1 and 2 done; then its record.
 unfoldable pub passedOf : State → ℕ → List ℕ → State
@@ -101,45 +94,15 @@ eventReceive s e receive transmit =
 
 -- ---- host calls
 
--- "No other call is refused." "Host calls set the flags (service request, busy, subsystem, terminal fault), vector and BIT words, clear the
--- self-test request, or restart."
-abbrev pub withHost : State → Host → State
-withHost s host =
-    record { setup = s .setup; host = host; held = s .held; message = s .message; sending = s .sending; time = s .time }
-
-abbrev pub withService : Host → Bool → Host
-withService h on =
-    record { service = on; busy = h .busy; subsystem = h .subsystem; defect = h .defect; vectorword = h .vectorword; bitword = h .bitword }
-
-abbrev pub withBusy : Host → Bool → Host
-withBusy h on =
-    record { service = h .service; busy = on; subsystem = h .subsystem; defect = h .defect; vectorword = h .vectorword; bitword = h .bitword }
-
-abbrev pub withSubsystem : Host → Bool → Host
-withSubsystem h on =
-    record { service = h .service; busy = h .busy; subsystem = on; defect = h .defect; vectorword = h .vectorword; bitword = h .bitword }
-
-abbrev pub withTerminalFault : Host → Bool → Host
-withTerminalFault h on =
-    record { service = h .service; busy = h .busy; subsystem = h .subsystem; defect = on; vectorword = h .vectorword; bitword = h .bitword }
-
-abbrev pub withVectorWord : Host → ℕ → Host
-withVectorWord h word =
-    record { service = h .service; busy = h .busy; subsystem = h .subsystem; defect = h .defect; vectorword = word; bitword = h .bitword }
-
-abbrev pub withBitWord : Host → ℕ → Host
-withBitWord h word =
-    record { service = h .service; busy = h .busy; subsystem = h .subsystem; defect = h .defect; vectorword = h .vectorword; bitword = word }
-
+-- "No other call is refused." "Host calls set the flags .., vector and BIT words": `withHost` of States.antt; "clear the self-test request, or
+-- restart."
 abbrev pub selftestCleared : State → State
-selftestCleared s =
-    record { setup = s .setup; host = s .host; held = withSelftest (s .held) false; message = s .message; sending = s .sending; time = s .time }
+selftestCleared s = withHeld s (withSelftest (s .held) false)
 
 -- "8 and restart give the fresh state, host flags and words kept. A restart also ends a message or sending; .. The last event's time stays after
 -- both."
 abbrev pub restartedOf : State → State
-restartedOf s =
-    record { setup = s .setup; host = s .host; held = freshHeld (s .setup .address); message = noMessage; sending = noSending; time = s .time }
+restartedOf s = withSending (withMessage (withHeld s (freshHeld (s .setup .own))) noMessage) noSending
 
 -- ---- next moment
 

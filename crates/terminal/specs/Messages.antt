@@ -5,6 +5,7 @@ use lib.Dec.{eqb, ltb, leb}
 use Rattle.words.specs.Words.{dueDistance, spacingMost, wordTicks, addressOf, countOf, isTransmit, isMode, isBroadcast, isSpaced, commandSync, dataSync, awaitedOf}
 use Rattle.records.specs.declared.forms.WordRecord.{WordRecord}
 use Rattle.terminal.specs.Commands.{isValidRecord}
+use Rattle.terminal.specs.declared.states.Own.{Own}
 use Rattle.terminal.specs.declared.states.Phase.{Phase}
 use Rattle.terminal.specs.declared.states.Phase.the-variants.{Idle, First, Pledged, Data}
 use Rattle.terminal.specs.declared.states.Message.{Message}
@@ -54,13 +55,13 @@ isNextData m r = isValidRecord r && eqb (r .sync) dataSync && isSpaced (m .last 
 
 -- "directly after a receive command that is no mode command, within 195 to 205, a valid command word may come that transmits, to another
 -- address than ours and 31, no mode command, equal count field." (003 7.3.3.6.3, 002 2.7.1)
-unfoldable pub isSecond : ℕ → Message → WordRecord → Bool
+unfoldable pub isSecond : Own → Message → WordRecord → Bool
 isSecond own m r =
     isValidRecord r
     && eqb (r .sync) commandSync
     && isSpaced (m .last .0) (r .time .0)
     && isTransmit (r .word)
-    && not (eqb (addressOf (r .word)) own || isBroadcast (r .word))
+    && not (eqb (addressOf (r .word)) (own .address) || isBroadcast (r .word))
     && not (isMode (r .word))
     && eqb (countOf (r .word)) (countOf (m .command .0))
 

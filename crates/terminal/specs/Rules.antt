@@ -1,17 +1,18 @@
 -- Document 01, "The terminal": "At an event of time t, in this order", rules 1 to 6. Assumes nothing.
-use Prim.Native.Nat.{ℕ, _+_}
+use Prim.Native.Nat.{ℕ}
 use mathlib.Core.Bool.{Bool, cond, _&&_}
 use mathlib.Core.List.{List}
 use lib.Dec.{eqb}
-use lib.ListN.{set, replicate}
+use lib.ListN.{replicate}
 use Rattle.words.specs.Words.{addressOf, codeOf, isTransmit, isMode, isBroadcast, statusOf, withFlag}
 use Rattle.words.specs.declared.statuses.Flag.the-variants.{MessageError, BroadcastReceived}
 use Rattle.records.specs.declared.forms.WordRecord.{WordRecord}
-use Rattle.terminal.specs.States.{noMessage, noSending}
+use Rattle.terminal.specs.States.{withStatus, withCommand, messageOf, noMessage, atPhase, withWord, noSending, withHeld, withMessage, withSending}
 use Rattle.terminal.specs.Commands.{isOwn, isExempt}
 use Rattle.terminal.specs.Messages.{isOn, awaitsData, isDue, isLate, isSending, isNextData, isSecond, isStatusFrom}
 use Rattle.terminal.specs.Settling.{otherBus, settledStatus, replyOf, noAnswer, answerOf, sendingOf, storedOf}
-use Rattle.terminal.specs.Effects.{withStatus, withCommand, heldAfter}
+use Rattle.terminal.specs.Effects.{heldAfter}
+use Rattle.terminal.specs.declared.states.Own.{Own}
 use Rattle.terminal.specs.declared.states.Held.{Held}
 use Rattle.terminal.specs.declared.states.Phase.{Phase}
 use Rattle.terminal.specs.declared.states.Phase.the-variants.{Idle, First, Pledged, Data}
@@ -19,11 +20,6 @@ use Rattle.terminal.specs.declared.states.Message.{Message}
 use Rattle.terminal.specs.declared.states.Terminal.{Terminal as State}
 use Rattle.terminal.specs.declared.answers.Answer.{Answer}
 use Rattle.terminal.specs.declared.answers.Reply.{Reply}
-
--- The state with other parts.
-abbrev pub withMessage : State → Held → Message → State
-withMessage s held message =
-    record { setup = s .setup; host = s .host; held = held; message = message; sending = s .sending; time = s .time }
 
 -- ---- "1. A message whose due time is at most t is settled."
 
@@ -44,14 +40,7 @@ rule1Receive s t receive = cond (isDue (s .message) t) (storedOf s receive) rece
 -- "8 does not end the sending of its own answer."
 unfoldable pub settledOf : State → List ℕ → State
 settledOf s transmit =
-    record {
-      setup = s .setup;
-      host = s .host;
-      held = heldAfter s (statusNow s);
-      message = noMessage;
-      sending = sendingOf s (replyNow s transmit .count);
-      time = s .time;
-    }
+    withSending (withMessage (withHeld s (heldAfter s (statusNow s))) noMessage) (sendingOf s (replyNow s transmit .count))
 
 unfoldable pub rule1 : State → ℕ → List ℕ → State
 rule1 s t transmit = cond (isDue (s .message) t) (settledOf s transmit) s
@@ -59,11 +48,11 @@ rule1 s t transmit = cond (isDue (s .message) t) (settledOf s transmit) s
 -- ---- "2. A message that still awaits a data word with t more than 205 past its last word is faulty."
 
 -- "A faulty message ends at once: message error goes into the stored status (not for the two exempt commands), no answer, no data stored."
+abbrev pub markedOf : Own → Held → ℕ → Held
+markedOf own h word = cond (isExempt own word) h (withStatus h (withFlag MessageError (h .status .0)))
+
 unfoldable pub faultyOf : State → State
-faultyOf s =
-    withMessage s
-    (cond (isExempt (s .setup .address) (s .message .command .0)) (s .held) (withStatus (s .held) (withFlag MessageError (s .held .status .0))))
-    noMessage
+faultyOf s = withMessage (withHeld s (markedOf (s .setup .own) (s .held) (s .message .command .0))) noMessage
 
 unfoldable pub rule2 : State → ℕ → State
 rule2 s t = cond (isLate (s .message) t) (faultyOf s) s
@@ -79,12 +68,12 @@ rule3 s r = isSending (s .sending) (r .bus) (r .time .0)
 -- broadcast received if 31. Transmit status word and transmit last command (to the own address) leave the stored status as it is." And "the
 -- valid command word sets the broadcast bit; 002 waits for the whole valid message." (01, Sources; 003 7.3.3.5.3.7).
 -- Departs from 002 2.7.2 and 003 7.3.3.6.7.1, .2 and .4.
-unfoldable pub notedStatus : ℕ → Held → ℕ → Held
+unfoldable pub notedStatus : Own → Held → ℕ → Held
 notedStatus own h word =
     cond (isExempt own word) h
-    (withStatus h (cond (isBroadcast word) (withFlag BroadcastReceived (statusOf own 0)) (statusOf own 0)))
+    (withStatus h (cond (isBroadcast word) (withFlag BroadcastReceived (statusOf (own .address) 0)) (statusOf (own .address) 0)))
 
-unfoldable pub notedCommand : ℕ → Held → ℕ → Held
+unfoldable pub notedCommand : Own → Held → ℕ → Held
 notedCommand own h word = cond (isExempt own word && eqb (codeOf word) 18) h (withCommand h word)
 
 -- A second command word may follow "a receive command that is no mode command".
@@ -92,38 +81,31 @@ unfoldable pub firstPhase : ℕ → Phase
 firstPhase word = cond (isTransmit word) Data (cond (isMode word) Data First)
 
 unfoldable pub begunOf : WordRecord → Message
-begunOf r =
-    record { phase = firstPhase (r .word); bus = r .bus; command = record { 0 = r .word }; last = r .time; got = 0; words = replicate 32 0 }
+begunOf r = messageOf (firstPhase (r .word)) (r .bus) (record { 0 = r .word }) (r .time) 0 (replicate 32 0)
 
 -- "Replacement by itself marks no fault."
 unfoldable pub rule4 : State → WordRecord → State
 rule4 s r =
-    record {
-      setup = s .setup;
-      host = s .host;
-      held = notedCommand (s .setup .address) (notedStatus (s .setup .address) (s .held) (r .word)) (r .word);
-      message = begunOf r;
-      sending = noSending;
-      time = s .time;
-    }
+    withSending
+    (withMessage (withHeld s (notedCommand (s .setup .own) (notedStatus (s .setup .own) (s .held) (r .word)) (r .word))) (begunOf r))
+    noSending
 
 unfoldable pub cutsSending : State → WordRecord → Bool
-cutsSending s r = isOwn (s .setup .address) r && isSending (s .sending) (otherBus (r .bus)) (r .time .0)
+cutsSending s r = isOwn (s .setup .own) r && isSending (s .sending) (otherBus (r .bus)) (r .time .0)
 
 -- ---- "5. Any other record on the bus of a message under way must be its next word: .. Otherwise the message is faulty, also when all its words
 -- had come."
 
 -- the message with its next data word, at its own place
 unfoldable pub stagedOf : Message → WordRecord → Message
-stagedOf m r =
-    record { phase = Data; bus = m .bus; command = m .command; last = r .time; got = m .got + 1; words = set (m .words) (m .got) (r .word) }
+stagedOf m r = withWord (atPhase m Data (r .time)) (r .word)
 
 -- the message with another phase, its last word now
 unfoldable pub movedOf : Message → Phase → WordRecord → Message
-movedOf m phase r = record { phase = phase; bus = m .bus; command = m .command; last = r .time; got = m .got; words = m .words }
+movedOf m phase r = atPhase m phase (r .time)
 
 unfoldable pub nextData : State → WordRecord → State
-nextData s r = cond (awaitsData (s .message) && isNextData (s .message) r) (withMessage s (s .held) (stagedOf (s .message) r)) (faultyOf s)
+nextData s r = cond (awaitsData (s .message) && isNextData (s .message) r) (withMessage s (stagedOf (s .message) r)) (faultyOf s)
 
 -- "(between terminals also the words named below)": a second command word, "Then a valid status from that address .., then the data words.
 -- Any other record there is a fault."
@@ -131,10 +113,10 @@ unfoldable pub nextWord : Phase → State → WordRecord → State
 nextWord Idle s r = s
 nextWord Data s r = nextData s r
 nextWord First s r =
-    cond (isSecond (s .setup .address) (s .message) r)
-    (withMessage s (s .held) (movedOf (s .message) (Pledged (addressOf (r .word))) r))
+    cond (isSecond (s .setup .own) (s .message) r)
+    (withMessage s (movedOf (s .message) (Pledged (addressOf (r .word))) r))
     (nextData s r)
-nextWord (Pledged address) s r = cond (isStatusFrom address r) (withMessage s (s .held) (movedOf (s .message) Data r)) (faultyOf s)
+nextWord (Pledged address) s r = cond (isStatusFrom address r) (withMessage s (movedOf (s .message) Data r)) (faultyOf s)
 
 unfoldable pub rule5 : State → WordRecord → State
 rule5 s r = nextWord (s .message .phase) s r
@@ -148,4 +130,4 @@ rule6 s = s
 
 unfoldable pub rules3to6 : State → WordRecord → State
 rules3to6 s r =
-    cond (rule3 s r) s (cond (isOwn (s .setup .address) r) (rule4 s r) (cond (isOn (s .message) (r .bus)) (rule5 s r) (rule6 s)))
+    cond (rule3 s r) s (cond (isOwn (s .setup .own) r) (rule4 s r) (cond (isOn (s .message) (r .bus)) (rule5 s r) (rule6 s)))

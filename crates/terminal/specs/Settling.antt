@@ -32,7 +32,7 @@ withIf on flag status = cond on (withFlag flag status) status
 -- exempt commands skip this." (003 7.3.3.5.4, 002 2.6.5)
 unfoldable pub settledStatus : State → ℕ → ℕ
 settledStatus s word =
-    cond (isExempt (s .setup .address) word) (s .held .status .0)
+    cond (isExempt (s .setup .own) word) (s .held .status .0)
     (withIf (not (isLegal (s .setup) word)) MessageError
     (withIf (s .host .defect && not (s .held .inhibit)) Terminal
     (withIf (s .host .subsystem) Subsystem (withIf (s .host .busy) Busy (withIf (s .host .service) ServiceRequest (s .held .status .0))))))

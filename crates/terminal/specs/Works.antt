@@ -1,22 +1,101 @@
--- What rules 1 to 6 change of the state: the code hands on this alone, and not the masks with it. No sentence of document 01. Assumes nothing.
-use Prim.Native.Nat.{ℕ}
-use lib.ListN.{replicate}
-use Rattle.terminal.specs.States.{freshOf}
+-- How the code goes about rules 1 to 6: what they change of a state, what a record is before anything changes, and what is changed then. No sentence
+-- of document 01, and nobody need believe anything of it: no public promise names it, and proofs/ (Works, Meanings, Awaited, Happenings) shows
+-- that it comes to what Rules.antt and Events.antt say. Assumes nothing.
+use Prim.Native.Nat.{ℕ, _-_}
+use mathlib.Core.Bool.{Bool, true, false, not, cond, _&&_}
+use lib.Dec.{leb}
+use lib.ListN.{getD, replicate}
+use Rattle.words.specs.Words.{addressOf, awaitedOf, isSpaced}
+use Rattle.records.specs.declared.forms.WordRecord.{WordRecord}
+use Rattle.terminal.specs.States.{setupOf, freshOf, withHeld, withMessage, withSending}
+use Rattle.terminal.specs.Commands.{isOwn}
+use Rattle.terminal.specs.Messages.{isOn, awaitsData, isSending, isNextData, isSecond, isStatusFrom}
+use Rattle.terminal.specs.Settling.{otherBus}
+use Rattle.terminal.specs.Rules.{faultyOf, rule4, stagedOf, movedOf}
+use Rattle.terminal.specs.declared.states.Own.{Own}
+use Rattle.terminal.specs.declared.states.Phase.{Phase}
+use Rattle.terminal.specs.declared.states.Phase.the-variants.{Idle, First, Pledged, Data}
 use Rattle.terminal.specs.declared.states.Message.{Message}
 use Rattle.terminal.specs.declared.states.Work.{Work}
 use Rattle.terminal.specs.declared.states.Terminal.{Terminal as State}
+use Rattle.terminal.specs.declared.rules.Fault.{Fault}
+use Rattle.terminal.specs.declared.rules.Fault.the-variants.{Spacing, Other}
+use Rattle.terminal.specs.declared.rules.Meaning.{Meaning}
+use Rattle.terminal.specs.declared.rules.Meaning.the-variants.{Ignored, Begins, SecondCommand, Status, DataWord, Faulty, Nothing}
+use Rattle.terminal.specs.declared.events.Event.{Event}
+use Rattle.terminal.specs.declared.events.Event.the-variants.{Mark, Word}
+use Rattle.terminal.specs.declared.events.Told.{Told}
+
+-- ---- what the rules change
 
 -- The work of a state; the state with other work; the work with another message.
 abbrev pub workOf : State → Work
-workOf s = record { held = s .held; message = s .message; sending = s .sending }
+workOf s = record { message = s .message; sending = s .sending; held = s .held }
 
 abbrev pub withWork : State → Work → State
-withWork s w =
-    record { setup = s .setup; host = s .host; held = w .held; message = w .message; sending = w .sending; time = s .time }
+withWork s w = withSending (withMessage (withHeld s (w .held)) (w .message)) (w .sending)
 
 abbrev pub messageIn : Work → Message → Work
-messageIn w message = record { held = w .held; message = message; sending = w .sending }
+messageIn w message = record { message = message; sending = w .sending; held = w .held }
 
--- A state with that own address and that work. Rules 2 to 6 read nothing else of it.
-abbrev pub bareOf : ℕ → Work → State
-bareOf own w = withWork (freshOf (record { address = own; receive = replicate 32 0; transmit = replicate 32 0 })) w
+-- A state with that `Own` and that work. Rules 2 to 6 read nothing else of it.
+abbrev pub bareOf : Own → Work → State
+bareOf own w = withWork (freshOf (setupOf own (replicate 32 0) (replicate 32 0))) w
+
+-- The last data word that the command of the message awaits, of a mode command its only one; 0 where it awaits none (DECISIONS 71).
+unfoldable pub lastAwaited : Message → ℕ
+lastAwaited m =
+    cond (leb 1 (awaitedOf (m .command .0)) && leb (awaitedOf (m .command .0)) 32) (getD (m .words) (awaitedOf (m .command .0) - 1) 0) 0
+
+-- ---- an event in numbers
+
+abbrev pub toldOf : Event → Told
+toldOf (Mark t) = record { heard = record { time = t; bus = 0; sync = 0; faults = 0; word = 0; parity = 0 }; mark = true }
+toldOf (Word r) = record { heard = r; mark = false }
+
+-- ---- what a record is
+
+-- The fault of a record that is no data word of the message: one that is badly spaced while a data word is awaited, or any other.
+unfoldable pub faultIn : Message → WordRecord → Fault
+faultIn m r = cond (awaitsData m && not (isSpaced (m .last .0) (r .time .0))) Spacing Other
+
+unfoldable pub dataMeaning : Message → WordRecord → Meaning
+dataMeaning m r = cond (awaitsData m && isNextData m r) DataWord (Faulty (faultIn m r))
+
+unfoldable pub wordMeaning : Phase → Own → Message → WordRecord → Meaning
+wordMeaning Idle own m r = Nothing
+wordMeaning Data own m r = dataMeaning m r
+wordMeaning First own m r = cond (isSecond own m r) SecondCommand (dataMeaning m r)
+wordMeaning (Pledged address) own m r = cond (isStatusFrom address r) Status (Faulty Other)
+
+unfoldable pub meaningOf : Own → Work → WordRecord → Meaning
+meaningOf own w r =
+    cond (isSending (w .sending) (r .bus) (r .time .0)) Ignored
+    (cond (isOwn own r) Begins
+    (cond (isOn (w .message) (r .bus)) (wordMeaning (w .message .phase) own (w .message) r) Nothing))
+
+unfoldable pub heardMeaning : Own → Work → Told → Meaning
+heardMeaning own w told = cond (told .mark) Nothing (meaningOf own w (told .heard))
+
+-- ---- what is changed then
+
+abbrev pub isBeginning : Meaning → Bool
+isBeginning Ignored = false
+isBeginning Begins = true
+isBeginning SecondCommand = false
+isBeginning Status = false
+isBeginning DataWord = false
+isBeginning (Faulty fault) = false
+isBeginning Nothing = false
+
+unfoldable pub cutBy : Work → WordRecord → Meaning → Bool
+cutBy w r meaning = isBeginning meaning && isSending (w .sending) (otherBus (r .bus)) (r .time .0)
+
+unfoldable pub changedOf : Own → Work → WordRecord → Meaning → Work
+changedOf own w r Ignored = w
+changedOf own w r Begins = workOf (rule4 (bareOf own w) r)
+changedOf own w r SecondCommand = messageIn w (movedOf (w .message) (Pledged (addressOf (r .word))) r)
+changedOf own w r Status = messageIn w (movedOf (w .message) Data r)
+changedOf own w r DataWord = messageIn w (stagedOf (w .message) r)
+changedOf own w r (Faulty fault) = workOf (faultyOf (bareOf own w))
+changedOf own w r Nothing = w

@@ -1,16 +1,27 @@
-// The answer of a message that is settled: its status, its data words, whether it is withheld (01 The terminal: "Settling: ..").
-// Meaning: specs/Settling.antt. Inner functions: the event calls them. Refusals: none.
+// Settling: the answer's status, its data words, whether it is withheld, its sending, and the data words stored (01 The terminal: "Settling: ..").
+// Meaning: specs/Settling.antt, specs/Rules.antt. Inner functions: rule 1 calls `settle`. Refusals: none.
 ghost use mathlib.Core.Path.{_≡_};
 ghost use Prim.Native.Nat.{_+_, _^_, _<_};
 ghost use lib.ListN.{length};
 ghost use Rattle.words.specs.Words.{dueDistance};
 ghost use Rattle.terminal.specs.Commands.{isLegal};
-ghost use Rattle.terminal.specs.Settling.{withIf, settledStatus, noWords, oneWord, tableWords, modeWords, legalReply, replyOf, storesData, isWithheld, noAnswer, answerOf, sendingOf};
+ghost use Rattle.terminal.specs.Settling.{storedOf, withIf, settledStatus, noWords, oneWord, tableWords, modeWords, legalReply, replyOf, storesData, isWithheld, noAnswer, answerOf, sendingOf};
+ghost use Rattle.terminal.specs.Rules.{statusNow, replyNow, settledOf};
+ghost use Rattle.terminal.specs.Works.{workOf};
+use crate::commands::TRANSMIT_BIT_WORD;
+use crate::commands::TRANSMIT_LAST_COMMAND;
+use crate::commands::TRANSMIT_VECTOR_WORD;
 use crate::commands::is_exempt;
+use crate::commands::is_legal;
+use crate::rules::Passed;
+use crate::states::Message;
 use crate::states::Sending;
 use crate::states::Terminal;
+use crate::states::Work;
+use crate::tables::SUBADDRESS_WORDS;
 use crate::tables::fetch;
 use crate::tables::is_shut;
+use crate::tables::store;
 use words::CommandWord;
 use words::Flag;
 use words::Moment;
@@ -18,18 +29,18 @@ use words::StatusWord;
 
 // What an event carries: "(bus, due time, status, number of data words, words)", the words past the number 0; or none.
 pub struct Answer {
-    pub given: bool,
-    pub bus: u8,
     pub due: Moment,
+    pub words: [u16; 32],
     pub status: StatusWord,
     pub count: u16,
-    pub words: [u16; 32],
+    pub bus: u8,
+    pub given: bool,
 }
 
 // The data words of an answer, those past the number 0.
 pub struct Reply {
-    pub count: u16,
     pub words: [u16; 32],
+    pub count: u16,
 }
 
 impl Answer {
@@ -74,7 +85,7 @@ impl Reply {
         ensures reply { λ r. ⌜ r ≡ tableWords (now (table .entry)) (command .0) ⌝ }
     {
         let count = command.words();
-        let at = 32 * (command.subaddress() as usize);
+        let at = SUBADDRESS_WORDS * (command.subaddress() as usize);
         let words = fetch(table, at, count as usize);
         Reply { count, words }
     }
@@ -89,11 +100,11 @@ fn with_if(status: StatusWord, flag: Flag, on: bool) -> StatusWord
 
 impl Terminal {
     // Gives the status that the answer to the command has, and that is stored then.
-    pub(crate) fn settled_status(self, command: CommandWord, legal: bool) -> StatusWord
+    fn settled_status(self, command: CommandWord, legal: bool) -> StatusWord
         requires { ⌜ legal ≡ isLegal (self .setup) (command .0) ⌝ }
         ensures status { λ r. ⌜ r .0 ≡ settledStatus self (command .0) ⌝ }
     {
-        let own = self.setup.address;
+        let own = self.setup.own;
         let host = self.host;
         let stored = self.held.status;
         if is_exempt(own, command) {
@@ -111,13 +122,13 @@ impl Terminal {
         ensures reply { λ r. ⌜ r ≡ modeWords self (command .0) ⌝ }
     {
         let code = command.count();
-        if code == 16 {
+        if code == TRANSMIT_VECTOR_WORD {
             return Reply::one(self.host.vectorword);
         }
-        if code == 18 {
+        if code == TRANSMIT_LAST_COMMAND {
             return Reply::one(self.held.command.0);
         }
-        if code == 19 {
+        if code == TRANSMIT_BIT_WORD {
             return Reply::one(self.host.bitword);
         }
         Reply::none()
@@ -138,7 +149,7 @@ impl Terminal {
     }
 
     // Gives the data words of the answer to the command.
-    pub(crate) fn reply(self, command: CommandWord, legal: bool, table: &[u16]) -> Reply
+    fn reply(self, command: CommandWord, legal: bool, table: &[u16]) -> Reply
         requires { ⌜ (legal ≡ isLegal (self .setup) (command .0)) × (length (now table) ≡ 1024) ⌝ }
         ensures reply { λ r. ⌜ r ≡ replyOf self (command .0) (now (table .entry)) ⌝ }
     {
@@ -150,7 +161,7 @@ impl Terminal {
     }
 
     // Says whether the message's data words are stored.
-    pub(crate) fn stores_data(self, command: CommandWord, legal: bool) -> bool
+    fn stores_data(self, command: CommandWord, legal: bool) -> bool
         requires { ⌜ legal ≡ isLegal (self .setup) (command .0) ⌝ }
         ensures answer { λ r. ⌜ r ≡ storesData self (command .0) ⌝ }
     {
@@ -167,7 +178,7 @@ impl Terminal {
     }
 
     // Gives the answer with that status and these words, or none where it is withheld.
-    pub(crate) fn answer(self, status: StatusWord, reply: Reply) -> Answer
+    fn answer(self, status: StatusWord, reply: Reply) -> Answer
         requires { ⌜ self .message .last .0 + dueDistance < 2 ^ 64 ⌝ }
         ensures answer { λ r. ⌜ r ≡ answerOf self (status .0) reply ⌝ }
     {
@@ -188,7 +199,7 @@ impl Terminal {
     }
 
     // Gives the sending of that answer.
-    pub(crate) fn sending(self, count: u16) -> Sending
+    fn sending(self, count: u16) -> Sending
         requires { ⌜ self .message .last .0 + dueDistance < 2 ^ 64 ⌝ }
         requires { ⌜ count < 65535 ⌝ }
         ensures sending { λ r. ⌜ r ≡ sendingOf self count ⌝ }
@@ -204,5 +215,44 @@ impl Terminal {
             from,
             words: count + 1,
         }
+    }
+
+    // Stores the message's data words where they are to be stored.
+    fn store_data(self, legal: bool, receive: &mut [u16])
+        requires { ⌜ (legal ≡ isLegal (self .setup) (self .message .command .0)) × (length (now receive) ≡ 1024) ⌝ }
+        ensures receive { λ _. ⌜ now (receive .exit) ≡ storedOf self (now (receive .entry)) ⌝ }
+    {
+        let message = self.message;
+        let command = message.command;
+        if self.stores_data(command, legal) {
+            let words = message.words;
+            let at = SUBADDRESS_WORDS * (command.subaddress() as usize);
+            store(receive, at, words, command.words() as usize);
+        }
+    }
+
+    // The message that is due is settled: its answer, its data words stored, the work after it. The masks are asked once.
+    pub(crate) fn settle(self, receive: &mut [u16], transmit: &[u16]) -> Passed
+        requires { ⌜ (length (now receive) ≡ 1024) × (length (now transmit) ≡ 1024) × (self .message .last .0 + dueDistance < 2 ^ 64) ⌝ }
+        ensures answer { λ r. ⌜ r .answer ≡ answerOf self (statusNow self) (replyNow self (now (transmit .entry))) ⌝ }
+        ensures work { λ r. ⌜ r .work ≡ workOf (settledOf self (now (transmit .entry))) ⌝ }
+        ensures receive { λ _. ⌜ now (receive .exit) ≡ storedOf self (now (receive .entry)) ⌝ }
+    {
+        let setup = self.setup;
+        let command = self.message.command;
+        let legal = is_legal(setup, command);
+        let status = self.settled_status(command, legal);
+        let reply = self.reply(command, legal, transmit);
+        self.store_data(legal, receive);
+        let sending = self.sending(reply.count);
+        let held = self.held_after(status, legal);
+        let message = Message::none();
+        let answer = self.answer(status, reply);
+        let work = Work {
+            message,
+            sending,
+            held,
+        };
+        Passed { work, answer }
     }
 }

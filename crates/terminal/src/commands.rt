@@ -2,10 +2,40 @@
 // specs/Commands.antt. Refusals: none.
 ghost use mathlib.Core.Path.{_≡_};
 ghost use Rattle.terminal.specs.Commands.{isValidRecord, isOwn, isExempt, maskOf, isHeldIllegal, isLegal};
+use crate::states::Own;
 use crate::states::Setup;
 use records::WordRecord;
 use words::COMMAND_SYNC;
 use words::CommandWord;
+
+// The mode codes by their names in 01's table.
+pub(crate) const SYNCHRONIZE: u16 = 1;
+
+pub(crate) const TRANSMIT_STATUS_WORD: u16 = 2;
+
+pub(crate) const SELF_TEST: u16 = 3;
+
+pub(crate) const SHUTDOWN: u16 = 4;
+
+pub(crate) const SHUTDOWN_OVERRIDE: u16 = 5;
+
+pub(crate) const INHIBIT: u16 = 6;
+
+pub(crate) const INHIBIT_OVERRIDE: u16 = 7;
+
+pub(crate) const RESET: u16 = 8;
+
+pub(crate) const TRANSMIT_VECTOR_WORD: u16 = 16;
+
+pub(crate) const SYNCHRONIZE_WITH_DATA: u16 = 17;
+
+pub(crate) const TRANSMIT_LAST_COMMAND: u16 = 18;
+
+pub(crate) const TRANSMIT_BIT_WORD: u16 = 19;
+
+pub(crate) const SELECTED_SHUTDOWN: u16 = 20;
+
+pub(crate) const SELECTED_OVERRIDE: u16 = 21;
 
 // Says whether the record's word is valid.
 pub(crate) fn is_valid_record(heard: WordRecord) -> bool
@@ -15,24 +45,24 @@ pub(crate) fn is_valid_record(heard: WordRecord) -> bool
 }
 
 // Says whether the record is an own command.
-pub(crate) fn is_own(own: u16, heard: WordRecord) -> bool
+pub(crate) fn is_own(own: Own, heard: WordRecord) -> bool
     ensures answer { λ r. ⌜ r ≡ isOwn own heard ⌝ }
 {
     let command = CommandWord(heard.word);
     is_valid_record(heard)
         & (heard.sync == COMMAND_SYNC)
-        & ((command.address() == own) | command.is_broadcast())
+        & ((command.address() == own.address) | command.is_broadcast())
 }
 
 // Says whether the command leaves the stored status as it is: transmit status word and transmit last command, to the own address.
-pub(crate) fn is_exempt(own: u16, command: CommandWord) -> bool
+pub(crate) fn is_exempt(own: Own, command: CommandWord) -> bool
     ensures answer { λ r. ⌜ r ≡ isExempt own (command .0) ⌝ }
 {
     let code = command.count();
-    (command.address() == own)
+    (command.address() == own.address)
         & command.is_transmit()
         & command.is_mode()
-        & ((code == 2) | (code == 18))
+        & ((code == TRANSMIT_STATUS_WORD) | (code == TRANSMIT_LAST_COMMAND))
 }
 
 // Gives the mask of the command's T/R bit and subaddress.
@@ -52,7 +82,7 @@ fn is_held_illegal(command: CommandWord) -> bool
     ensures answer { λ r. ⌜ r ≡ isHeldIllegal (command .0) ⌝ }
 {
     let code = command.count();
-    (code == 20) | (code == 21) | !words::is_allowed(command)
+    (code == SELECTED_SHUTDOWN) | (code == SELECTED_OVERRIDE) | !words::is_allowed(command)
 }
 
 // Says whether the command is legal: by one bit of its mask, and by what is illegal besides.

@@ -1,129 +1,69 @@
-// What a settled mode command does, and what an own command notes (01 The terminal: "Effects come after the answer is composed"; rule 4).
-// Meaning: specs/Effects.antt, specs/Rules.antt. Inner functions: the event calls them. Refusals: none.
+// What a settled mode command does (01 The terminal: "Effects come after the answer is composed"). Meaning: specs/Effects.antt. Inner functions:
+// settling calls them. Refusals: none.
 ghost use mathlib.Core.Path.{_≡_};
 ghost use Rattle.terminal.specs.Commands.{isLegal};
 ghost use Rattle.terminal.specs.Settling.{otherBus};
-ghost use Rattle.terminal.specs.Effects.{withStatus, withCommand, withSyncWord, withSelftest, withInhibit, withShut, effectOf, heldAfter};
-ghost use Rattle.terminal.specs.Rules.{notedStatus, notedCommand};
-use crate::commands::is_exempt;
+ghost use Rattle.terminal.specs.Effects.{effectOf, heldAfter};
+ghost use Rattle.terminal.specs.Works.{lastAwaited};
+use crate::commands::INHIBIT;
+use crate::commands::INHIBIT_OVERRIDE;
+use crate::commands::RESET;
+use crate::commands::SELF_TEST;
+use crate::commands::SHUTDOWN;
+use crate::commands::SHUTDOWN_OVERRIDE;
+use crate::commands::SYNCHRONIZE;
+use crate::commands::SYNCHRONIZE_WITH_DATA;
 use crate::states::Held;
+use crate::states::Message;
+use crate::states::Own;
 use crate::states::Terminal;
-use crate::tables::with_shut;
-use words::CommandWord;
-use words::Flag;
+use crate::tables::STAGED_WORDS;
 use words::StatusWord;
+
+// "0 is A, 1 is B"
+const BUS_A: u8 = 0;
+
+const BUS_B: u8 = 1;
 
 // Gives the other bus.
 pub(crate) fn other_bus(bus: u8) -> u8
     ensures bus { λ r. ⌜ r ≡ otherBus bus ⌝ }
 {
-    if bus == 0 { 1 } else { 0 }
+    if bus == BUS_A { BUS_B } else { BUS_A }
 }
 
 impl Held {
-    // What is held with another stored status.
-    pub(crate) fn with_status(self, status: StatusWord) -> Held
-        ensures held { λ r. ⌜ r ≡ withStatus self (status .0) ⌝ }
-    {
-        let mut next = self;
-        next.status = status;
-        next
-    }
-
-    // With another last command.
-    fn with_command(self, command: CommandWord) -> Held
-        ensures held { λ r. ⌜ r ≡ withCommand self (command .0) ⌝ }
-    {
-        let mut next = self;
-        next.command = command;
-        next
-    }
-
-    // With another sync word.
-    fn with_sync_word(self, word: u16) -> Held
-        ensures held { λ r. ⌜ r ≡ withSyncWord self word ⌝ }
-    {
-        let mut next = self;
-        next.syncword = word;
-        next
-    }
-
-    // With the self-test request set or cleared.
-    fn with_selftest(self, on: bool) -> Held
-        ensures held { λ r. ⌜ r ≡ withSelftest self on ⌝ }
-    {
-        let mut next = self;
-        next.selftest = on;
-        next
-    }
-
-    // With the terminal flag inhibited or allowed.
-    fn with_inhibit(self, on: bool) -> Held
-        ensures held { λ r. ⌜ r ≡ withInhibit self on ⌝ }
-    {
-        let mut next = self;
-        next.inhibit = on;
-        next
-    }
-
-    // With the transmitter of a bus shut down or opened.
-    fn with_shut(self, bus: u8, on: bool) -> Held
-        ensures held { λ r. ⌜ r ≡ withShut self bus on ⌝ }
-    {
-        let before = self.shut;
-        let shut = with_shut(before, bus, on);
-        let mut next = self;
-        next.shut = shut;
-        next
-    }
-
     // Gives what is held after a legal mode command of that code, on that bus, with that data word.
-    fn effect(self, own: u16, code: u16, bus: u8, word: u16) -> Held
+    fn effect(self, own: Own, code: u16, bus: u8, word: u16) -> Held
         ensures held { λ r. ⌜ r ≡ effectOf own self code bus word ⌝ }
     {
         match code {
-            1 => self.with_sync_word(0),
-            3 => self.with_selftest(true),
-            4 => self.with_shut(other_bus(bus), true),
-            5 => self.with_shut(other_bus(bus), false),
-            6 => self.with_inhibit(true),
-            7 => self.with_inhibit(false),
-            8 => Held::fresh(own),
-            17 => self.with_sync_word(word),
+            SYNCHRONIZE => self.with_sync_word(0),
+            SELF_TEST => self.with_selftest(true),
+            SHUTDOWN => self.with_shut(other_bus(bus), true),
+            SHUTDOWN_OVERRIDE => self.with_shut(other_bus(bus), false),
+            INHIBIT => self.with_inhibit(true),
+            INHIBIT_OVERRIDE => self.with_inhibit(false),
+            RESET => Held::fresh(own),
+            SYNCHRONIZE_WITH_DATA => self.with_sync_word(word),
             _ => self,
         }
     }
+}
 
-    // Gives what is held with the status that an own command stores.
-    fn noted_status(self, own: u16, command: CommandWord) -> Held
-        ensures held { λ r. ⌜ r ≡ notedStatus own self (command .0) ⌝ }
+impl Message {
+    // Gives the last data word that the command awaits, of a mode command its only one; 0 where it awaits none. Asked of its number and not of place
+    // 0, it leaves the staged words one piece to copy.
+    fn last_awaited(self) -> u16
+        ensures word { λ r. ⌜ r ≡ lastAwaited self ⌝ }
     {
-        if is_exempt(own, command) {
-            return self;
+        let command = self.command;
+        let count = command.awaited() as usize;
+        if (1 <= count) & (count <= STAGED_WORDS) {
+            self.words[count - 1]
+        } else {
+            0
         }
-        let address = StatusWord::build(own, 0);
-        if command.is_broadcast() {
-            return self.with_status(address.with(Flag::BroadcastReceived));
-        }
-        self.with_status(address)
-    }
-
-    // Gives what is held with the last command, which transmit last command leaves.
-    fn noted_command(self, own: u16, command: CommandWord) -> Held
-        ensures held { λ r. ⌜ r ≡ notedCommand own self (command .0) ⌝ }
-    {
-        if is_exempt(own, command) & (command.count() == 18) {
-            return self;
-        }
-        self.with_command(command)
-    }
-
-    // Gives what is held after an own command.
-    pub(crate) fn noted(self, own: u16, command: CommandWord) -> Held
-        ensures held { λ r. ⌜ r ≡ notedCommand own (notedStatus own self (command .0)) (command .0) ⌝ }
-    {
-        let stored = self.noted_status(own, command);
-        stored.noted_command(own, command)
     }
 }
 
@@ -133,12 +73,13 @@ impl Terminal {
         requires { ⌜ legal ≡ isLegal (self .setup) (self .message .command .0) ⌝ }
         ensures held { λ r. ⌜ r ≡ heldAfter self (status .0) ⌝ }
     {
-        let own = self.setup.address;
+        let own = self.setup.own;
         let message = self.message;
         let command = message.command;
+        let word = message.last_awaited();
         let stored = self.held.with_status(status);
         if legal & command.is_mode() {
-            return stored.effect(own, command.count(), message.bus, message.words[0]);
+            return stored.effect(own, command.count(), message.bus, word);
         }
         stored
     }

@@ -1,12 +1,15 @@
 // An event whole: refused or not, then rules 1 to 6 (01 The terminal; Numbers for a refused call). Meaning: specs/Events.antt.
 // Refusals: 1, 5, 6.
 ghost use mathlib.Core.Path.{_≡_};
-ghost use lib.ListN.{length};
-ghost use Rattle.terminal.specs.Events.{timeOf, isInRange, eventRefusal, atTime, takenOf, cutOf, happensOf, refusedOf, eventOf, eventReceive};
-ghost use Rattle.terminal.specs.Works.{workOf, withWork, bareOf};
+ghost use Rattle.terminal.specs.Events.{eventRefusal, refusedOf, eventOf, eventReceive};
+ghost use Rattle.terminal.specs.Works.{toldOf, heardMeaning};
+ghost use Rattle.terminal.specs.declared.events.Event.the-variants.{Word};
 use crate::answers::Answer;
+use crate::rules::Meaning;
+use crate::states::Own;
 use crate::states::Terminal;
 use crate::states::Work;
+use crate::tables::TABLE_WORDS;
 use records::WordRecord;
 use words::Moment;
 use words::Refusal;
@@ -17,67 +20,63 @@ pub enum Event {
     Word(WordRecord),
 }
 
-// What an event gives: the refusal's number or 0, the answer that it carries, whether it cut a sending, and the terminal after it.
+// An event in numbers, so that it is matched on once: a time mark is told as a record of zeros at its time, and that it is a mark.
+pub struct Told {
+    pub heard: WordRecord,
+    pub mark: bool,
+}
+
+// What an event gives: the terminal after it, the answer that it carries, the refusal's number or 0, and whether it cut a sending.
 pub struct Happened {
-    pub refusal: Refusal,
-    pub answer: Answer,
-    pub cut: bool,
     pub terminal: Terminal,
+    pub answer: Answer,
+    pub refusal: Refusal,
+    pub cut: bool,
 }
 
 impl Event {
-    // Gives the event's time.
-    fn time(self) -> Moment
-        ensures time { λ r. ⌜ r .0 ≡ timeOf self ⌝ }
+    // Tells the event in numbers.
+    fn told(self) -> Told
+        ensures told { λ r. ⌜ r ≡ toldOf self ⌝ }
     {
         match self {
-            Event::Mark(time) => time,
-            Event::Word(heard) => heard.time,
-        }
-    }
-
-    // Says whether its time, and every field of a record, is in range.
-    fn in_range(self) -> bool
-        ensures answer { λ r. ⌜ r ≡ isInRange self ⌝ }
-    {
-        match self {
-            Event::Mark(time) => time.on_clock(),
-            Event::Word(heard) => heard.in_range(),
+            Event::Mark(time) => {
+                let heard = WordRecord {
+                    time,
+                    bus: 0,
+                    sync: 0,
+                    faults: 0,
+                    word: 0,
+                    parity: 0,
+                };
+                Told { heard, mark: true }
+            }
+            Event::Word(heard) => Told { heard, mark: false },
         }
     }
 }
 
 impl Work {
-    // What the event's record does after rules 1 and 2.
-    fn taken(self, own: u16, event: Event) -> Work
-        ensures work { λ r. ⌜ r ≡ workOf (takenOf (bareOf own self) event) ⌝ }
+    // Says what the event's record is to the terminal; a time mark is nothing.
+    fn heard_meaning(self, own: Own, told: Told) -> Meaning
+        ensures meaning { λ r. ⌜ r ≡ heardMeaning own self told ⌝ }
     {
-        match event {
-            Event::Mark(_) => self,
-            Event::Word(heard) => self.rules3to6(own, heard),
+        if told.mark {
+            return Meaning::Nothing;
         }
-    }
-
-    // Says whether the event's record cuts a sending.
-    fn cuts(self, own: u16, event: Event) -> bool
-        ensures answer { λ r. ⌜ r ≡ cutOf (bareOf own self) event ⌝ }
-    {
-        match event {
-            Event::Mark(_) => false,
-            Event::Word(heard) => self.cuts_sending(own, heard),
-        }
+        let heard = told.heard;
+        self.meaning(own, heard)
     }
 }
 
 impl Terminal {
     // Gives the refusal of an event that lends tables of these lengths, or none.
-    fn event_refusal(self, event: Event, receive: usize, transmit: usize) -> Refusal
-        ensures refusal { λ r. ⌜ r .0 ≡ eventRefusal self event receive transmit ⌝ }
+    fn event_refusal(self, heard: WordRecord, receive: usize, transmit: usize) -> Refusal
+        ensures refusal { λ r. ⌜ r .0 ≡ eventRefusal self (Word heard) receive transmit ⌝ }
     {
-        if (receive == 1024) & (transmit == 1024) {
-            if event.in_range() {
-                let time = event.time();
-                if self.time.0 <= time.0 {
+        if (receive == TABLE_WORDS) & (transmit == TABLE_WORDS) {
+            if heard.in_range() {
+                if self.time.0 <= heard.time.0 {
                     return Refusal::NONE;
                 }
                 return Refusal::OUT_OF_ORDER;
@@ -93,29 +92,10 @@ impl Terminal {
     {
         let answer = Answer::none();
         Happened {
-            refusal,
-            answer,
-            cut: false,
             terminal: self,
-        }
-    }
-
-    // The terminal with that work, at the time of its last event.
-    fn after(self, work: Work, time: Moment) -> Terminal
-        ensures terminal { λ r. ⌜ r ≡ atTime (withWork self work) (time .0) ⌝ }
-    {
-        let setup = self.setup;
-        let host = self.host;
-        let held = work.held;
-        let message = work.message;
-        let sending = work.sending;
-        Terminal {
-            setup,
-            host,
-            held,
-            message,
-            sending,
-            time,
+            answer,
+            refusal,
+            cut: false,
         }
     }
 
@@ -127,24 +107,27 @@ impl Terminal {
         ensures happened { λ r. ⌜ r ≡ eventOf self event (now (receive .entry)) (now (transmit .entry)) ⌝ }
         ensures receive { λ _. ⌜ now (receive .exit) ≡ eventReceive self event (now (receive .entry)) (now (transmit .entry)) ⌝ }
     {
-        let refusal = self.event_refusal(event, receive.len(), transmit.len());
-        if refusal.0 == 0 {
-            let own = self.setup.address;
-            let time = event.time();
-            let settled = self.rule1(time, receive, transmit);
-            let answer = settled.answer;
-            let work = settled.work;
-            let passed = work.rule2(own, time);
-            let cut = passed.cuts(own, event);
-            let taken = passed.taken(own, event);
-            let terminal = self.after(taken, time);
-            return Happened {
-                refusal: Refusal::NONE,
-                answer,
-                cut,
-                terminal,
-            };
+        let told = event.told();
+        let heard = told.heard;
+        let refusal = self.event_refusal(heard, receive.len(), transmit.len());
+        if refusal.0 != 0 {
+            return self.refused(refusal);
         }
-        self.refused(refusal)
+        let own = self.setup.own;
+        let time = heard.time;
+        let passed = self.pass(time, receive, transmit);
+        let work = passed.work;
+        let answer = passed.answer;
+        let meaning = work.heard_meaning(own, told);
+        let cut = work.cuts_sending(heard, meaning);
+        let taken = work.changed(own, heard, meaning);
+        let mut terminal = self.with_work(taken);
+        terminal.time = time;
+        Happened {
+            terminal,
+            answer,
+            refusal: Refusal::NONE,
+            cut,
+        }
     }
 }

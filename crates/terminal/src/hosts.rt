@@ -1,7 +1,8 @@
-// Host calls, host reads and the next moment (01 The terminal). Meaning: specs/Events.antt. Refusals: none.
+// Host calls, host reads and the next moment (01 The terminal). Meaning: specs/Events.antt, specs/States.antt. Refusals: none.
 ghost use mathlib.Core.Path.{_≡_};
 ghost use Rattle.terminal.specs.Settling.{isShut};
-ghost use Rattle.terminal.specs.Events.{withHost, withService, withBusy, withSubsystem, withTerminalFault, withVectorWord, withBitWord, selftestCleared, restartedOf, nextMomentOf};
+ghost use Rattle.terminal.specs.States.{withService, withBusy, withSubsystem, withTerminalFault, withVectorWord, withBitWord, withHost};
+ghost use Rattle.terminal.specs.Events.{selftestCleared, restartedOf, nextMomentOf};
 use crate::states::Held;
 use crate::states::Message;
 use crate::states::Sending;
@@ -97,7 +98,7 @@ impl Terminal {
     pub fn restart(self) -> Terminal
         ensures terminal { λ r. ⌜ r ≡ restartedOf self ⌝ }
     {
-        let held = Held::fresh(self.setup.address);
+        let held = Held::fresh(self.setup.own);
         let message = Message::none();
         let sending = Sending::none();
         let mut next = self;

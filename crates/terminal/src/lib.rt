@@ -20,6 +20,7 @@ pub use setups::set_up;
 pub use states::Held;
 pub use states::Host;
 pub use states::Message;
+pub use states::Own;
 pub use states::Phase;
 pub use states::Sending;
 pub use states::Setup;

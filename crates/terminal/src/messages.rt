@@ -5,6 +5,7 @@ ghost use Rattle.words.specs.Words.{isSpaced};
 ghost use Rattle.terminal.specs.Messages.{isUnderWay, isOn, isCounting, awaitsData, isWhole, isDue, isLate, isSending, isNextData, isSecond, isStatusFrom};
 use crate::commands::is_valid_record;
 use crate::states::Message;
+use crate::states::Own;
 use crate::states::Phase;
 use crate::states::Sending;
 use crate::states::Terminal;
@@ -57,7 +58,7 @@ impl Message {
     {
         let phase = self.phase;
         let command = self.command;
-        phase.is_counting() & (self.got < command.awaited())
+        phase.is_counting() & (self.got < (command.awaited() as usize))
     }
 
     // Says whether all words have come.
@@ -66,7 +67,7 @@ impl Message {
     {
         let phase = self.phase;
         let command = self.command;
-        phase.is_counting() & (command.awaited() <= self.got)
+        phase.is_counting() & ((command.awaited() as usize) <= self.got)
     }
 
     // Says whether the due time is at most that.
@@ -86,7 +87,7 @@ impl Message {
     }
 
     // Says whether a word of that time is "195 to 205 after the one before".
-    fn is_spaced(self, time: Moment) -> bool
+    pub(crate) fn is_spaced(self, time: Moment) -> bool
         ensures answer { λ r. ⌜ r ≡ isSpaced (self .last .0) (time .0) ⌝ }
     {
         let past = time.since(self.last);
@@ -101,7 +102,7 @@ impl Message {
     }
 
     // Says whether the record is the second command word of a message between terminals.
-    pub(crate) fn is_second(self, own: u16, heard: WordRecord) -> bool
+    pub(crate) fn is_second(self, own: Own, heard: WordRecord) -> bool
         ensures answer { λ r. ⌜ r ≡ isSecond own self heard ⌝ }
     {
         let command = CommandWord(heard.word);
@@ -109,7 +110,7 @@ impl Message {
             & (heard.sync == COMMAND_SYNC)
             & self.is_spaced(heard.time)
             & command.is_transmit()
-            & !((command.address() == own) | command.is_broadcast())
+            & !((command.address() == own.address) | command.is_broadcast())
             & !command.is_mode()
             & (command.count() == self.command.count())
     }

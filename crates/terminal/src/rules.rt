@@ -1,89 +1,159 @@
-// "At an event of time t, in this order": rules 1 to 6 (01 The terminal). Meaning: specs/Rules.antt. Inner functions: the event calls
+// "At an event of time t, in this order": rules 1 to 6 (01 The terminal). Rules 1 and 2 look at the time. Of a record rules 3 to 6 first say what it
+// is to the terminal; what it changes is then done in one place. Meaning: specs/Rules.antt, specs/Works.antt. Inner functions: the event calls
 // them. Refusals: none.
 ghost use mathlib.Core.Path.{_≡_};
-ghost use Prim.Native.Nat.{_+_, _^_, _<_};
 ghost use lib.ListN.{length};
-ghost use Rattle.words.specs.Words.{dueDistance};
-ghost use Rattle.terminal.specs.Commands.{isLegal};
-ghost use Rattle.terminal.specs.Settling.{answerOf, storedOf};
-ghost use Rattle.terminal.specs.Rules.{statusNow, replyNow, rule1Answer, rule1Receive, settledOf, rule1, faultyOf, rule2, firstPhase, begunOf, rule4, cutsSending, stagedOf, movedOf, nextData, rule5, rules3to6};
-ghost use Rattle.terminal.specs.Works.{workOf, messageIn, bareOf};
+ghost use Rattle.terminal.specs.Rules.{rule1Answer, rule1Receive, markedOf, faultyOf, rule2, firstPhase, notedStatus, notedCommand, begunOf, rule4};
+ghost use Rattle.terminal.specs.Events.{passedOf};
+ghost use Prim.Native.Nat.{_<_};
+ghost use Rattle.terminal.specs.declared.rules.Meaning.the-variants.{DataWord};
+ghost use Rattle.terminal.specs.Works.{workOf, bareOf, faultIn, dataMeaning, wordMeaning, meaningOf, isBeginning, cutBy, changedOf};
 use crate::answers::Answer;
+use crate::commands::TRANSMIT_LAST_COMMAND;
 use crate::commands::is_exempt;
-use crate::commands::is_legal;
 use crate::commands::is_own;
 use crate::effects::other_bus;
 use crate::messages::is_status_from;
+use crate::states::Held;
 use crate::states::Message;
+use crate::states::Own;
 use crate::states::Phase;
 use crate::states::Sending;
 use crate::states::Terminal;
 use crate::states::Work;
-use crate::tables::store;
-use crate::tables::with_word;
 use records::WordRecord;
 use words::CommandWord;
 use words::Flag;
 use words::Moment;
+use words::StatusWord;
 
-// What rule 1 gives: the answer that the event carries, and the work after it.
-pub struct Settled {
-    pub answer: Answer,
+// What rules 1 and 2 give: the work after them, and the answer that the event carries.
+pub struct Passed {
     pub work: Work,
+    pub answer: Answer,
 }
 
-impl Message {
-    // The message that an own command begins.
-    fn begun(heard: WordRecord) -> Message
-        ensures message { λ r. ⌜ r ≡ begunOf heard ⌝ }
+// Why a message is faulty.
+pub enum Fault {
+    // rule 2: "t more than 205 past its last word"
+    Late,
+    // rule 5: not "195 to 205 after the one before", while a data word is awaited
+    Spacing,
+    // rule 5: a record that is not its next word for anything else
+    Other,
+}
+
+// What a record is to the terminal, in the order of rules 3 to 6.
+pub enum Meaning {
+    // heard while the terminal is sending on its bus
+    Ignored,
+    // an own command
+    Begins,
+    // the second command word of a message between terminals, then its status
+    SecondCommand,
+    Status,
+    // the next data word
+    DataWord,
+    // not the next word of the message under way
+    Faulty(Fault),
+    // any other record, and a time mark
+    Nothing,
+}
+
+// ---- "1. A message whose due time is at most t is settled."
+impl Terminal {
+    // `settle` of answers.rt where it is due. What is settled is under way no more, so that rule 2 is asked of the others alone.
+    pub(crate) fn pass(self, time: Moment, receive: &mut [u16], transmit: &[u16]) -> Passed
+        requires { ⌜ (length (now receive) ≡ 1024) × (length (now transmit) ≡ 1024) ⌝ }
+        ensures work { λ r. ⌜ r .work ≡ workOf (passedOf self (time .0) (now (transmit .entry))) ⌝ }
+        ensures answer { λ r. ⌜ r .answer ≡ rule1Answer self (time .0) (now (transmit .entry)) ⌝ }
+        ensures receive { λ _. ⌜ now (receive .exit) ≡ rule1Receive self (time .0) (now (receive .entry)) ⌝ }
     {
-        let command = CommandWord(heard.word);
-        let phase = first_phase(command);
-        let last = heard.time;
-        Message {
-            phase,
-            bus: heard.bus,
-            command,
-            last,
-            got: 0,
-            words: [0; 32],
+        if self.message.is_due(time) {
+            return self.settle(receive, transmit);
+        }
+        let answer = Answer::none();
+        let before = self.work();
+        let work = before.rule2(self.setup.own, time);
+        Passed { work, answer }
+    }
+}
+
+// ---- "2. A message that still awaits a data word with t more than 205 past its last word is faulty."
+impl Held {
+    // "message error goes into the stored status (not for the two exempt commands)"
+    fn marked(self, own: Own, command: CommandWord) -> Held
+        ensures held { λ r. ⌜ r ≡ markedOf own self (command .0) ⌝ }
+    {
+        if is_exempt(own, command) {
+            return self;
+        }
+        let error = self.status.with(Flag::MessageError);
+        self.with_status(error)
+    }
+}
+
+impl Work {
+    // "A faulty message ends at once": whatever its fault, no answer, no data stored.
+    fn faulty(self, own: Own, _fault: Fault) -> Work
+        ensures work { λ r. ⌜ r ≡ workOf (faultyOf (bareOf own self)) ⌝ }
+    {
+        let command = self.message.command;
+        let held = self.held.marked(own, command);
+        let message = Message::none();
+        let sending = self.sending;
+        Work {
+            message,
+            sending,
+            held,
         }
     }
 
-    // The message with its next data word at its own place.
-    fn staged(self, heard: WordRecord) -> Message
-        requires { ⌜ self .got < 65535 ⌝ }
-        ensures message { λ r. ⌜ r ≡ stagedOf self heard ⌝ }
+    fn rule2(self, own: Own, time: Moment) -> Work
+        ensures work { λ r. ⌜ r ≡ workOf (rule2 (bareOf own self) (time .0)) ⌝ }
     {
-        let command = self.command;
-        let last = heard.time;
-        let before = self.words;
-        let words = with_word(before, self.got, heard.word);
-        Message {
-            phase: Phase::Data,
-            bus: self.bus,
-            command,
-            last,
-            got: self.got + 1,
-            words,
+        if self.message.is_late(time) {
+            return self.faulty(own, Fault::Late);
         }
+        self
+    }
+}
+
+// ---- "3. A record on a bus on which the terminal is sending .. is ignored.": `Sending::is_sending`, asked first in `meaning`.
+
+// ---- "4. An own command replaces any message under way, and cuts a sending on the other bus; the result says so."
+impl Held {
+    // "The stored status becomes the own address, plus broadcast received if 31. Transmit status word and transmit last command (to the own
+    // address) leave the stored status as it is."
+    fn noted_status(self, own: Own, command: CommandWord) -> Held
+        ensures held { λ r. ⌜ r ≡ notedStatus own self (command .0) ⌝ }
+    {
+        if is_exempt(own, command) {
+            return self;
+        }
+        let address = StatusWord::build(own.address, 0);
+        if command.is_broadcast() {
+            return self.with_status(address.with(Flag::BroadcastReceived));
+        }
+        self.with_status(address)
     }
 
-    // The message in another phase, its last word now.
-    fn moved(self, phase: Phase, heard: WordRecord) -> Message
-        ensures message { λ r. ⌜ r ≡ movedOf self phase heard ⌝ }
+    // "It becomes the last command unless it is transmit last command to the own address."
+    fn noted_command(self, own: Own, command: CommandWord) -> Held
+        ensures held { λ r. ⌜ r ≡ notedCommand own self (command .0) ⌝ }
     {
-        let command = self.command;
-        let last = heard.time;
-        let words = self.words;
-        Message {
-            phase,
-            bus: self.bus,
-            command,
-            last,
-            got: self.got,
-            words,
+        if is_exempt(own, command) & (command.count() == TRANSMIT_LAST_COMMAND) {
+            return self;
         }
+        self.with_command(command)
+    }
+
+    // Gives what is held after an own command.
+    fn noted(self, own: Own, command: CommandWord) -> Held
+        ensures held { λ r. ⌜ r ≡ notedCommand own (notedStatus own self (command .0)) (command .0) ⌝ }
+    {
+        let stored = self.noted_status(own, command);
+        stored.noted_command(own, command)
     }
 }
 
@@ -100,191 +170,149 @@ fn first_phase(command: CommandWord) -> Phase
     Phase::First
 }
 
-impl Terminal {
-    // What the rules change of the terminal.
-    fn work(self) -> Work
-        ensures work { λ r. ⌜ r ≡ workOf self ⌝ }
+impl Message {
+    // The message that an own command begins.
+    fn begun(heard: WordRecord) -> Message
+        ensures message { λ r. ⌜ r ≡ begunOf heard ⌝ }
     {
-        let held = self.held;
-        let message = self.message;
-        let sending = self.sending;
-        Work {
-            held,
-            message,
-            sending,
-        }
-    }
-
-    // Stores the message's data words where they are to be stored.
-    fn store_data(self, legal: bool, receive: &mut [u16])
-        requires { ⌜ (legal ≡ isLegal (self .setup) (self .message .command .0)) × (length (now receive) ≡ 1024) ⌝ }
-        ensures receive { λ _. ⌜ now (receive .exit) ≡ storedOf self (now (receive .entry)) ⌝ }
-    {
-        let message = self.message;
-        let command = message.command;
-        if self.stores_data(command, legal) {
-            let words = message.words;
-            let at = 32 * (command.subaddress() as usize);
-            store(receive, at, words, command.words() as usize);
-        }
-    }
-
-    // The message that is due is settled: its answer, its data words stored, the work after it. The masks are asked once.
-    fn settle(self, receive: &mut [u16], transmit: &[u16]) -> Settled
-        requires { ⌜ (length (now receive) ≡ 1024) × (length (now transmit) ≡ 1024) × (self .message .last .0 + dueDistance < 2 ^ 64) ⌝ }
-        ensures answer { λ r. ⌜ r .answer ≡ answerOf self (statusNow self) (replyNow self (now (transmit .entry))) ⌝ }
-        ensures work { λ r. ⌜ r .work ≡ workOf (settledOf self (now (transmit .entry))) ⌝ }
-        ensures receive { λ _. ⌜ now (receive .exit) ≡ storedOf self (now (receive .entry)) ⌝ }
-    {
-        let setup = self.setup;
-        let command = self.message.command;
-        let legal = is_legal(setup, command);
-        let status = self.settled_status(command, legal);
-        let reply = self.reply(command, legal, transmit);
-        self.store_data(legal, receive);
-        let sending = self.sending(reply.count);
-        let held = self.held_after(status, legal);
-        let message = Message::none();
-        let answer = self.answer(status, reply);
-        let work = Work {
-            held,
-            message,
-            sending,
-        };
-        Settled { answer, work }
-    }
-
-    // "1. A message whose due time is at most t is settled."
-    pub(crate) fn rule1(self, time: Moment, receive: &mut [u16], transmit: &[u16]) -> Settled
-        requires { ⌜ (length (now receive) ≡ 1024) × (length (now transmit) ≡ 1024) ⌝ }
-        ensures answer { λ r. ⌜ r .answer ≡ rule1Answer self (time .0) (now (transmit .entry)) ⌝ }
-        ensures work { λ r. ⌜ r .work ≡ workOf (rule1 self (time .0) (now (transmit .entry))) ⌝ }
-        ensures receive { λ _. ⌜ now (receive .exit) ≡ rule1Receive self (time .0) (now (receive .entry)) ⌝ }
-    {
-        if self.message.is_due(time) {
-            return self.settle(receive, transmit);
-        }
-        let answer = Answer::none();
-        let work = self.work();
-        Settled { answer, work }
+        let command = CommandWord(heard.word);
+        let phase = first_phase(command);
+        let last = heard.time;
+        Message::build(phase, heard.bus, command, last, 0, [0; 32])
     }
 }
 
-// Rules 2 to 6 read of the terminal its own address and the work.
+impl Meaning {
+    // Says whether the record is an own command that is not ignored.
+    fn is_beginning(self) -> bool
+        ensures answer { λ r. ⌜ r ≡ isBeginning self ⌝ }
+    {
+        match self {
+            Meaning::Ignored => false,
+            Meaning::Begins => true,
+            Meaning::SecondCommand => false,
+            Meaning::Status => false,
+            Meaning::DataWord => false,
+            Meaning::Faulty(_) => false,
+            Meaning::Nothing => false,
+        }
+    }
+}
+
 impl Work {
-    // The work with the message replaced.
-    fn with_message(self, message: Message) -> Work
-        ensures work { λ r. ⌜ r ≡ messageIn self message ⌝ }
-    {
-        let mut next = self;
-        next.message = message;
-        next
-    }
-
-    // The message under way is faulty and ends at once.
-    fn faulty(self, own: u16) -> Work
-        ensures work { λ r. ⌜ r ≡ workOf (faultyOf (bareOf own self)) ⌝ }
-    {
-        let command = self.message.command;
-        let message = Message::none();
-        let mut next = self.with_message(message);
-        if is_exempt(own, command) {
-            return next;
-        }
-        let held = self.held;
-        let error = held.status.with(Flag::MessageError);
-        let marked = held.with_status(error);
-        next.held = marked;
-        next
-    }
-
-    // "2. A message that still awaits a data word with t more than 205 past its last word is faulty."
-    pub(crate) fn rule2(self, own: u16, time: Moment) -> Work
-        ensures work { λ r. ⌜ r ≡ workOf (rule2 (bareOf own self) (time .0)) ⌝ }
-    {
-        if self.message.is_late(time) {
-            return self.faulty(own);
-        }
-        self
-    }
-
-    // "4. An own command replaces any message under way, and cuts a sending on the other bus"
-    fn rule4(self, own: u16, heard: WordRecord) -> Work
+    // "Replacement by itself marks no fault."
+    fn begun(self, own: Own, heard: WordRecord) -> Work
         ensures work { λ r. ⌜ r ≡ workOf (rule4 (bareOf own self) heard) ⌝ }
     {
         let held = self.held.noted(own, CommandWord(heard.word));
         let message = Message::begun(heard);
         let sending = Sending::none();
         Work {
-            held,
             message,
             sending,
+            held,
         }
     }
 
-    // Says whether the record cuts a sending on the other bus.
-    pub(crate) fn cuts_sending(self, own: u16, heard: WordRecord) -> bool
-        ensures answer { λ r. ⌜ r ≡ cutsSending (bareOf own self) heard ⌝ }
+    // Says whether a record with that meaning cuts a sending on the other bus.
+    pub(crate) fn cuts_sending(self, heard: WordRecord, meaning: Meaning) -> bool
+        ensures answer { λ r. ⌜ r ≡ cutBy self heard meaning ⌝ }
     {
         let sending = self.sending;
-        is_own(own, heard) & sending.is_sending(other_bus(heard.bus), heard.time)
+        meaning.is_beginning() & sending.is_sending(other_bus(heard.bus), heard.time)
     }
+}
 
-    // The record must be the next data word.
-    fn next_data(self, own: u16, heard: WordRecord) -> Work
-        ensures work { λ r. ⌜ r ≡ workOf (nextData (bareOf own self) heard) ⌝ }
+// ---- "5. Any other record on the bus of a message under way must be its next word .. Otherwise the message is faulty, also when all its words had
+// come."
+impl Message {
+    // Gives the fault of a record that is not the next data word: badly spaced while one is awaited, or any other.
+    fn fault(self, heard: WordRecord) -> Fault
+        ensures fault { λ r. ⌜ r ≡ faultIn self heard ⌝ }
     {
-        let message = self.message;
-        if message.awaits_data() & message.is_next_data(heard) {
-            let staged = message.staged(heard);
-            return self.with_message(staged);
+        if self.awaits_data() & !self.is_spaced(heard.time) {
+            return Fault::Spacing;
         }
-        self.faulty(own)
+        Fault::Other
     }
 
-    // "5. Any other record on the bus of a message under way must be its next word"
-    fn rule5(self, own: u16, heard: WordRecord) -> Work
-        ensures work { λ r. ⌜ r ≡ workOf (rule5 (bareOf own self) heard) ⌝ }
+    // "its next word: valid, data sync, 195 to 205 after the one before"
+    fn data_meaning(self, heard: WordRecord) -> Meaning
+        ensures meaning { λ r. ⌜ r ≡ dataMeaning self heard ⌝ }
     {
-        let message = self.message;
-        let phase = message.phase;
+        if self.awaits_data() & self.is_next_data(heard) {
+            return Meaning::DataWord;
+        }
+        let fault = self.fault(heard);
+        Meaning::Faulty(fault)
+    }
+
+    // "(between terminals also the words named below)"
+    fn word_meaning(self, own: Own, heard: WordRecord) -> Meaning
+        ensures meaning { λ r. ⌜ r ≡ wordMeaning (self .phase) own self heard ⌝ }
+    {
+        let phase = self.phase;
         match phase {
-            Phase::Idle => self,
-            Phase::Data => self.next_data(own, heard),
+            Phase::Idle => Meaning::Nothing,
+            Phase::Data => self.data_meaning(heard),
             Phase::First => {
-                if message.is_second(own, heard) {
-                    let command = CommandWord(heard.word);
-                    let moved = message.moved(Phase::Pledged(command.address()), heard);
-                    self.with_message(moved)
+                if self.is_second(own, heard) {
+                    Meaning::SecondCommand
                 } else {
-                    self.next_data(own, heard)
+                    self.data_meaning(heard)
                 }
             }
             Phase::Pledged(address) => {
                 if is_status_from(address, heard) {
-                    let moved = message.moved(Phase::Data, heard);
-                    self.with_message(moved)
+                    Meaning::Status
                 } else {
-                    self.faulty(own)
+                    Meaning::Faulty(Fault::Other)
                 }
             }
         }
     }
+}
 
-    // "3. A record on a bus on which the terminal is sending .. is ignored.", 4, 5, "6. Other records do nothing."
-    pub(crate) fn rules3to6(self, own: u16, heard: WordRecord) -> Work
-        ensures work { λ r. ⌜ r ≡ workOf (rules3to6 (bareOf own self) heard) ⌝ }
+// ---- "6. Other records do nothing.", and the order of 3 to 6
+impl Work {
+    // Says what the record is to the terminal.
+    pub(crate) fn meaning(self, own: Own, heard: WordRecord) -> Meaning
+        ensures meaning { λ r. ⌜ r ≡ meaningOf own self heard ⌝ }
     {
         let message = self.message;
         if self.sending.is_sending(heard.bus, heard.time) {
-            return self;
+            return Meaning::Ignored;
         }
         if is_own(own, heard) {
-            return self.rule4(own, heard);
+            return Meaning::Begins;
         }
         if message.is_on(heard.bus) {
-            return self.rule5(own, heard);
+            return message.word_meaning(own, heard);
         }
-        self
+        Meaning::Nothing
+    }
+
+    // Changes what a record with that meaning changes.
+    pub(crate) fn changed(self, own: Own, heard: WordRecord, meaning: Meaning) -> Work
+        requires { ⌜ (meaning ≡ DataWord → self .message .got < 32) ⌝ }
+        ensures work { λ r. ⌜ r ≡ changedOf own self heard meaning ⌝ }
+    {
+        let message = self.message;
+        let last = heard.time;
+        match meaning {
+            Meaning::Ignored => self,
+            Meaning::Begins => self.begun(own, heard),
+            Meaning::SecondCommand => {
+                let partner = CommandWord(heard.word).address();
+                self.with_message(message.at_phase(Phase::Pledged(partner), last))
+            }
+            Meaning::Status => self.with_message(message.at_phase(Phase::Data, last)),
+            Meaning::DataWord => {
+                let moved = message.at_phase(Phase::Data, last);
+                self.with_message(moved.with_word(heard.word))
+            }
+            Meaning::Faulty(fault) => self.faulty(own, fault),
+            Meaning::Nothing => self,
+        }
     }
 }

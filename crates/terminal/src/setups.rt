@@ -2,24 +2,29 @@
 // Refusals: 1, 2.
 ghost use mathlib.Core.Path.{_≡_};
 ghost use lib.ListN.{length};
-ghost use Rattle.terminal.specs.Events.{setUpRefusal, nothingLegal, setUpOf};
+ghost use Rattle.terminal.specs.Events.{setUpRefusal, setUpOf};
 use crate::states::Setup;
 use crate::states::Terminal;
 use words::CommandWord;
 use words::Refusal;
 
-// The refusal's number or 0, and the terminal: after a refusal one that can never answer.
+// "an own address 0 to 30 and two tables of 32 masks"
+const LAST_ADDRESS: u16 = 30;
+
+const MASKS: usize = 32;
+
+// The terminal, after a refusal one that can never answer; and the refusal's number or 0.
 pub struct SetUp {
-    pub refusal: Refusal,
     pub terminal: Terminal,
+    pub refusal: Refusal,
 }
 
 // Gives the refusal of a set-up that lends mask tables of these lengths, or none.
 fn set_up_refusal(address: u16, receive: usize, transmit: usize) -> Refusal
     ensures refusal { λ r. ⌜ r .0 ≡ setUpRefusal address receive transmit ⌝ }
 {
-    if (receive == 32) & (transmit == 32) {
-        if address <= 30 {
+    if (receive == MASKS) & (transmit == MASKS) {
+        if address <= LAST_ADDRESS {
             return Refusal::NONE;
         }
         return Refusal::OWN_ADDRESS;
@@ -34,7 +39,7 @@ fn masks(table: &[u32]) -> [u32; 32]
 {
     let mut copy = [0u32; 32];
     let mut i = 0;
-    while i < 32 {
+    while i < MASKS {
         copy[i] = table[i];
         i += 1;
     }
@@ -51,22 +56,14 @@ pub fn set_up(address: u16, receive: &[u32], transmit: &[u32]) -> SetUp
     if refusal.0 == 0 {
         let received = masks(receive);
         let transmitted = masks(transmit);
-        let setup = Setup {
-            address,
-            receive: received,
-            transmit: transmitted,
-        };
+        let setup = Setup::build(address, received, transmitted);
         let terminal = Terminal::fresh(setup);
         return SetUp {
             refusal: Refusal::NONE,
             terminal,
         };
     }
-    let setup = Setup {
-        address: CommandWord::BROADCAST,
-        receive: [0; 32],
-        transmit: [0; 32],
-    };
+    let setup = Setup::build(CommandWord::BROADCAST, [0; 32], [0; 32]);
     let terminal = Terminal::fresh(setup);
     SetUp { refusal, terminal }
 }

@@ -1,29 +1,39 @@
-// The state of the terminal, by who changes it (01 The terminal). Meaning: specs/States.antt. Refusals: none.
+// The state of the terminal, by who changes it (01 The terminal). Fields stand from wide to narrow, so that no holes lie between
+// them. A set-up, what the host sets, what is held, a message and a terminal are written out whole in one place each, here. Meaning: specs/States.antt. Refusals: none.
 ghost use mathlib.Core.Path.{_≡_};
 ghost use mathlib.Core.List.{[], _∷_};
+ghost use Prim.Native.Nat.{_<_};
 ghost use Rattle.words.specs.Words.{dueDistance, spacingLeast, spacingMost};
-ghost use Rattle.terminal.specs.States.{noMessage, noSending, freshHeld, freshHost, freshOf};
+ghost use Rattle.terminal.specs.States.{ownOf, setupOf, freshHost, freshHeld, withStatus, withCommand, withSyncWord, withSelftest, withInhibit, withShut, messageOf, noMessage, atPhase, withWord, noSending, freshOf};
+ghost use Rattle.terminal.specs.Works.{workOf, messageIn, withWork};
+use crate::tables::BUSES;
+use crate::tables::with_word;
 use words::CommandWord;
 use words::Moment;
 use words::StatusWord;
 use words::Ticks;
 
+// What the rules ask of the set-up: what a later choice adds to it joins the own address here.
+pub struct Own {
+    pub address: u16,
+}
+
 // What set-up gives; nothing changes it. "bit n of the mask of a subaddress says that count code n is legal".
 pub struct Setup {
-    pub address: u16,
     pub receive: [u32; 32],
     pub transmit: [u32; 32],
+    pub own: Own,
 }
 
 // What the host sets: "the flags (service request, busy, subsystem, terminal fault), vector and BIT words". The terminal fault is a defect of
 // the card and no faulty message.
 pub struct Host {
+    pub vectorword: u16,
+    pub bitword: u16,
     pub service: bool,
     pub busy: bool,
     pub subsystem: bool,
     pub defect: bool,
-    pub vectorword: u16,
-    pub bitword: u16,
 }
 
 // What a restart makes fresh: stored status, last command, sync word, self-test request, terminal flag inhibited, and for each bus
@@ -51,51 +61,191 @@ pub enum Phase {
 
 // The message under way: the time of its last word, and the data words so far, staged until it is settled.
 pub struct Message {
+    pub last: Moment,
+    pub got: usize,
+    pub words: [u16; 32],
+    pub command: CommandWord,
     pub phase: Phase,
     pub bus: u8,
-    pub command: CommandWord,
-    pub last: Moment,
-    pub got: u16,
-    pub words: [u16; 32],
 }
 
 // The answer that is being sent, from its due time on, its status word counted.
 pub struct Sending {
-    pub on: bool,
-    pub bus: u8,
     pub from: Moment,
     pub words: u16,
+    pub bus: u8,
+    pub on: bool,
 }
 
 pub struct Terminal {
-    pub setup: Setup,
-    pub host: Host,
-    pub held: Held,
     pub message: Message,
     pub sending: Sending,
     pub time: Moment,
+    pub setup: Setup,
+    pub host: Host,
+    pub held: Held,
 }
 
 // What the rules change of it: an event hands on this alone, and not the masks with it.
 pub struct Work {
-    pub held: Held,
     pub message: Message,
     pub sending: Sending,
+    pub held: Held,
+}
+
+impl Setup {
+    // Gives the set-up of an own address and two tables of masks. The address is not judged: `set_up` does.
+    // Tables: none. Refusals: none.
+    pub fn build(address: u16, receive: [u32; 32], transmit: [u32; 32]) -> Setup
+        ensures setup { λ r. ⌜ r ≡ setupOf (ownOf address) receive transmit ⌝ }
+    {
+        let own = Own { address };
+        Setup {
+            receive,
+            transmit,
+            own,
+        }
+    }
+}
+
+impl Host {
+    // "host flags off, vector and BIT words 0"
+    fn fresh() -> Host
+        ensures host { λ r. ⌜ r ≡ freshHost ⌝ }
+    {
+        Host {
+            vectorword: 0,
+            bitword: 0,
+            service: false,
+            busy: false,
+            subsystem: false,
+            defect: false,
+        }
+    }
+}
+
+impl Held {
+    // "Fresh: transmitters on, nothing inhibited, status the own address, last command 0, sync word 0, no self-test request"
+    pub(crate) fn fresh(own: Own) -> Held
+        ensures held { λ r. ⌜ r ≡ freshHeld own ⌝ }
+    {
+        Held {
+            status: StatusWord::build(own.address, 0),
+            command: CommandWord(0),
+            syncword: 0,
+            selftest: false,
+            inhibit: false,
+            shut: [false; 2],
+        }
+    }
+
+    // What is held with another stored status.
+    pub(crate) fn with_status(self, status: StatusWord) -> Held
+        ensures held { λ r. ⌜ r ≡ withStatus self (status .0) ⌝ }
+    {
+        let mut next = self;
+        next.status = status;
+        next
+    }
+
+    // With another last command.
+    pub(crate) fn with_command(self, command: CommandWord) -> Held
+        ensures held { λ r. ⌜ r ≡ withCommand self (command .0) ⌝ }
+    {
+        let mut next = self;
+        next.command = command;
+        next
+    }
+
+    // With another sync word.
+    pub(crate) fn with_sync_word(self, word: u16) -> Held
+        ensures held { λ r. ⌜ r ≡ withSyncWord self word ⌝ }
+    {
+        let mut next = self;
+        next.syncword = word;
+        next
+    }
+
+    // With the self-test request set or cleared.
+    pub(crate) fn with_selftest(self, on: bool) -> Held
+        ensures held { λ r. ⌜ r ≡ withSelftest self on ⌝ }
+    {
+        let mut next = self;
+        next.selftest = on;
+        next
+    }
+
+    // With the terminal flag inhibited or allowed.
+    pub(crate) fn with_inhibit(self, on: bool) -> Held
+        ensures held { λ r. ⌜ r ≡ withInhibit self on ⌝ }
+    {
+        let mut next = self;
+        next.inhibit = on;
+        next
+    }
+
+    // With the transmitter of a bus shut down or opened.
+    pub(crate) fn with_shut(self, bus: u8, on: bool) -> Held
+        ensures held { λ r. ⌜ r ≡ withShut self bus on ⌝ }
+    {
+        let at = bus as usize;
+        let mut next = self;
+        if at < BUSES {
+            next.shut[at] = on;
+        }
+        next
+    }
 }
 
 impl Message {
+    // A message of these parts.
+    pub(crate) fn build(
+        phase: Phase,
+        bus: u8,
+        command: CommandWord,
+        last: Moment,
+        got: usize,
+        words: [u16; 32],
+    ) -> Message
+        ensures message { λ r. ⌜ r ≡ messageOf phase bus command last got words ⌝ }
+    {
+        Message {
+            last,
+            got,
+            words,
+            command,
+            phase,
+            bus,
+        }
+    }
+
     // No message under way.
     pub(crate) fn none() -> Message
         ensures message { λ r. ⌜ r ≡ noMessage ⌝ }
     {
-        Message {
-            phase: Phase::Idle,
-            bus: 0,
-            command: CommandWord(0),
-            last: Moment(0),
-            got: 0,
-            words: [0; 32],
-        }
+        Message::build(Phase::Idle, 0, CommandWord(0), Moment(0), 0, [0; 32])
+    }
+
+    // The message in another phase, its last word then.
+    pub(crate) fn at_phase(self, phase: Phase, last: Moment) -> Message
+        ensures message { λ r. ⌜ r ≡ atPhase self phase last ⌝ }
+    {
+        let command = self.command;
+        let words = self.words;
+        Message::build(phase, self.bus, command, last, self.got, words)
+    }
+
+    // The message with one data word more, at its own place.
+    pub(crate) fn with_word(self, word: u16) -> Message
+        requires { ⌜ self .got < 32 ⌝ }
+        ensures message { λ r. ⌜ r ≡ withWord self word ⌝ }
+    {
+        let before = self.words;
+        let words = with_word(before, self.got, word);
+        let phase = self.phase;
+        let command = self.command;
+        let last = self.last;
+        Message::build(phase, self.bus, command, last, self.got + 1, words)
     }
 }
 
@@ -105,27 +255,22 @@ impl Sending {
         ensures sending { λ r. ⌜ r ≡ noSending ⌝ }
     {
         Sending {
-            on: false,
-            bus: 0,
             from: Moment(0),
             words: 0,
+            bus: 0,
+            on: false,
         }
     }
 }
 
-impl Held {
-    // "Fresh: transmitters on, nothing inhibited, status the own address, last command 0, sync word 0, no self-test request"
-    pub(crate) fn fresh(address: u16) -> Held
-        ensures held { λ r. ⌜ r ≡ freshHeld address ⌝ }
+impl Work {
+    // The work with another message.
+    pub(crate) fn with_message(self, message: Message) -> Work
+        ensures work { λ r. ⌜ r ≡ messageIn self message ⌝ }
     {
-        Held {
-            status: StatusWord::build(address, 0),
-            command: CommandWord(0),
-            syncword: 0,
-            selftest: false,
-            inhibit: false,
-            shut: [false; 2],
-        }
+        let mut next = self;
+        next.message = message;
+        next
     }
 }
 
@@ -153,24 +298,45 @@ impl Terminal {
     pub fn fresh(setup: Setup) -> Terminal
         ensures terminal { λ r. ⌜ r ≡ freshOf setup ⌝ }
     {
-        let host = Host {
-            service: false,
-            busy: false,
-            subsystem: false,
-            defect: false,
-            vectorword: 0,
-            bitword: 0,
-        };
-        let held = Held::fresh(setup.address);
+        let host = Host::fresh();
+        let held = Held::fresh(setup.own);
         let message = Message::none();
         let sending = Sending::none();
         Terminal {
-            setup,
-            host,
-            held,
             message,
             sending,
             time: Moment(0),
+            setup,
+            host,
+            held,
         }
+    }
+
+    // What the rules change of the terminal.
+    pub(crate) fn work(self) -> Work
+        ensures work { λ r. ⌜ r ≡ workOf self ⌝ }
+    {
+        let message = self.message;
+        let sending = self.sending;
+        let held = self.held;
+        Work {
+            message,
+            sending,
+            held,
+        }
+    }
+
+    // The terminal with that work.
+    pub(crate) fn with_work(self, work: Work) -> Terminal
+        ensures terminal { λ r. ⌜ r ≡ withWork self work ⌝ }
+    {
+        let message = work.message;
+        let sending = work.sending;
+        let held = work.held;
+        let mut next = self;
+        next.message = message;
+        next.sending = sending;
+        next.held = held;
+        next
     }
 }

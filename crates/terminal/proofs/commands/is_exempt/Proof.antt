@@ -18,7 +18,7 @@ is-mode-requires c κs = search needs
 
 returns : tie.Need-returns
 unfolding isExempt
-returns c = rw (c .is-mode .ensures, c .before .is-transmit .ensures, c .before .before .address .ensures, c .before .before .before .count .ensures)
+returns c = rw (c .is-mode .ensures, c .before .is-transmit .ensures, c .before .before .before .address .ensures, c .before .before .before .before .count .ensures)
 
 pub is-exempt-spec : {M : Type 1} → statement M
 is-exempt-spec =

@@ -15,7 +15,7 @@ is-broadcast-requires c κs = search needs
 
 returns : tie.Need-returns
 unfolding isOwn
-returns c = rw (c .is-broadcast .ensures, c .before .address .ensures, c .before .before .before .is-valid-record .ensures)
+returns c = rw (c .is-broadcast .ensures, c .before .before .address .ensures, c .before .before .before .before .is-valid-record .ensures)
 
 pub is-own-spec : {M : Type 1} → statement M
 is-own-spec =

@@ -17,12 +17,18 @@ masks-requires c κs = set-up-tables (c .before .before .before .before .before 
 masks-requires-2 : tie.Need-masks-requires-2
 masks-requires-2 c κs = set-up-tables (c .before .before .before .before .before .before .args .address) _ _ (sym (c .before .before .before .set-up-refusal .ensures) ∙ c .before .if1 .taken) .1
 
+build-requires : tie.Need-build-requires
+build-requires c κs = search needs
+
 fresh-requires : tie.Need-fresh-requires
 fresh-requires c κs = search needs
 
 returns : tie.Need-returns
 unfolding setUpOf
-returns c = rw (eq-eqb _ _ (sym (c .before .before .before .before .before .set-up-refusal .ensures) ∙ c .before .before .before .if1 .taken), c .fresh .ensures, c .before .masks2 .ensures, c .before .before .masks .ensures)
+returns c = rw (eq-eqb _ _ (sym (c .before .before .before .before .before .before .set-up-refusal .ensures) ∙ c .before .before .before .before .if1 .taken), c .fresh .ensures, c .before .build .ensures, c .before .before .masks2 .ensures, c .before .before .before .masks .ensures)
+
+build-requires-2 : tie.Need-build-requires-2
+build-requires-2 c κs = search needs
 
 fresh-requires-2 : tie.Need-fresh-requires-2
 fresh-requires-2 c κs = search needs
@@ -30,8 +36,8 @@ fresh-requires-2 c κs = search needs
 returns-2 : tie.Need-returns-2
 unfolding setUpOf
 returns-2 c =
-    let refusal = c .before .before .before .set-up-refusal .ensures in
-    rw (ne-eqb _ _ (λ z. c .before .if1 .left (refusal ∙ z)), c .fresh2 .ensures, refusal-is _ _ refusal)
+    let refusal = c .before .before .before .before .set-up-refusal .ensures in
+    rw (ne-eqb _ _ (λ z. c .before .before .if1 .left (refusal ∙ z)), c .fresh2 .ensures, c .before .build2 .ensures, refusal-is _ _ refusal)
 
 pub set-up-spec : {M : Type 1} → statement M
 set-up-spec =
@@ -40,7 +46,9 @@ set-up-spec =
     set-up-refusal-requires
     masks-requires
     masks-requires-2
+    build-requires
     fresh-requires
     returns
+    build-requires-2
     fresh-requires-2
     returns-2)

@@ -30,7 +30,7 @@ count-requires-2 c κs = search needs
 
 returns : tie.Need-returns
 unfolding isSecond
-returns c = rw (c .count2 .ensures, c .before .count .ensures, c .before .before .is-mode .ensures, c .before .before .before .is-broadcast .ensures, c .before .before .before .before .address .ensures, c .before .before .before .before .before .is-transmit .ensures, c .before .before .before .before .before .before .is-spaced .ensures, c .before .before .before .before .before .before .before .before .is-valid-record .ensures)
+returns c = rw (c .count2 .ensures, c .before .count .ensures, c .before .before .is-mode .ensures, c .before .before .before .is-broadcast .ensures, c .before .before .before .before .before .address .ensures, c .before .before .before .before .before .before .is-transmit .ensures, c .before .before .before .before .before .before .before .is-spaced .ensures, c .before .before .before .before .before .before .before .before .before .is-valid-record .ensures)
 
 pub is-second-spec : {M : Type 1} → statement M
 is-second-spec =

@@ -10,9 +10,12 @@ is-counting-requires c κs = search needs
 awaited-requires : tie.Need-awaited-requires
 awaited-requires c κs = search needs
 
+cast-result : tie.Need-cast-result
+cast-result c = search needs
+
 returns : tie.Need-returns
 unfolding isWhole
 returns c = rw (c .before .awaited .ensures, c .before .before .is-counting .ensures)
 
 pub is-whole-spec : {M : Type 1} → statement M
-is-whole-spec = tie.close (tie.spec is-counting-requires awaited-requires returns)
+is-whole-spec = tie.close (tie.spec is-counting-requires awaited-requires cast-result returns)

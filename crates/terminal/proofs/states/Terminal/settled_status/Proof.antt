@@ -29,7 +29,7 @@ with-if-requires-5 c κs = search needs
 
 returns-2 : tie.Need-returns-2
 unfolding settledStatus
-returns-2 c = rw (sym (c .before .before .before .before .before .before .before .before .is-exempt .ensures) ∙ c .before .before .before .before .before .before .before .if1 .left, c .with-if5 .ensures, c .before .before .before .before .before .before .before .before .before .before .before .pre, c .before .with-if4 .ensures, c .before .before .before .before .with-if3 .ensures, c .before .before .before .before .before .with-if2 .ensures, c .before .before .before .before .before .before .with-if .ensures)
+returns-2 c = rw (sym (c .before .before .before .before .before .before .before .before .is-exempt .ensures) ∙ c .before .before .before .before .before .before .before .if1 .left, c .with-if5 .ensures, c .before .before .before .before .before .before .before .before .before .before .before .before .pre, c .before .with-if4 .ensures, c .before .before .before .before .with-if3 .ensures, c .before .before .before .before .before .with-if2 .ensures, c .before .before .before .before .before .before .with-if .ensures)
 
 pub settled-status-spec : {M : Type 1} → statement M
 settled-status-spec =

@@ -1,8 +1,8 @@
 -- What the command notes, begins and cuts. Assumes nothing.
 use Rattle.terminal.specs.Rules.{rule4}
 use borrow.Author.Needs.{needs}
-use Rattle.terminal.proofs.states.Work.rule4.Statement.{statement}
-use Rattle.terminal.proofs.states.Work.rule4.Tie as tie
+use Rattle.terminal.proofs.states.Work.begun.Statement.{statement}
+use Rattle.terminal.proofs.states.Work.begun.Tie as tie
 
 noted-requires : tie.Need-noted-requires
 noted-requires c κs = search needs
@@ -17,5 +17,5 @@ returns : tie.Need-returns
 unfolding rule4
 returns c = rw (c .none .ensures, c .before .begun .ensures, c .before .before .noted .ensures)
 
-pub rule4-spec : {M : Type 1} → statement M
-rule4-spec = tie.close (tie.spec noted-requires begun-requires none-requires returns)
+pub begun-spec : {M : Type 1} → statement M
+begun-spec = tie.close (tie.spec noted-requires begun-requires none-requires returns)
