@@ -1,9 +1,9 @@
 -- What holds of words beyond each function's own promise. Each is proved in proofs/ under the name at its side. Assumes nothing.
 use Prim.Native.Nat.{ℕ, zero, suc, _+_, _-_, _/_, _%_, _^_, _<_}
 use mathlib.Core.Path.{_≡_}
-use mathlib.Core.Bool.{Bool, true, false, cond, _||_}
-use lib.Dec.{eqb, leb}
-use Rattle.words.specs.Words.{fieldOf, gapOf, wordTicks, backToBackGap, dueDistance, noResponseDistance, addressOf, transmitOf, subaddressOf, countOf, commandOf, codeOf, isTransmit, bitOf, hasFlag, withFlag, flagsOf, statusOf, hasNoOther, isOdd, parityOf, isValid}
+use mathlib.Core.Bool.{Bool, true, false, not, cond, _&&_, _||_}
+use lib.Dec.{eqb, ltb, leb}
+use Rattle.words.specs.Words.{fieldOf, sinceOf, gapOf, spacingLeast, spacingMost, isSpaced, spacingOf, isOverlapping, isBackToBack, isSeparated, distanceIn, wordTicks, backToBackGap, dueDistance, noResponseDistance, addressOf, transmitOf, subaddressOf, countOf, commandOf, codeOf, isTransmit, bitOf, hasFlag, withFlag, flagsOf, statusOf, hasNoOther, isOdd, parityOf, isValid}
 use Rattle.words.specs.Modes.{rows, found, listingOf}
 use Rattle.words.specs.declared.statuses.Flag.{Flag}
 use Rattle.words.specs.declared.modes.Listing.{Listing}
@@ -16,6 +16,21 @@ Gaps =
     → (gapOf moment (moment + wordTicks) ≡ backToBackGap)
     × (gapOf moment (moment + dueDistance) ≡ 80)
     × (gapOf moment (moment + noResponseDistance) ≡ 140)
+
+-- of three, one is and no two are
+abbrev pub isOneOf : Bool → Bool → Bool → Bool
+isOneOf a b c = (a && not b && not c) || (not a && b && not c) || (not a && not b && c)
+
+-- Two words overlap below 195, are separated above 205, and are back to back, as `isSpaced` has it, between; they are one of the three and no two; and
+-- the distance is told: kinds-exact
+abbrev pub KindsExact : Type 0
+KindsExact =
+    (before after : ℕ)
+    → (isOverlapping (spacingOf before after) ≡ ltb (sinceOf before after) spacingLeast)
+    × (isBackToBack (spacingOf before after) ≡ isSpaced before after)
+    × (isSeparated (spacingOf before after) ≡ ltb spacingMost (sinceOf before after))
+    × (isOneOf (isOverlapping (spacingOf before after)) (isBackToBack (spacingOf before after)) (isSeparated (spacingOf before after)) ≡ true)
+    × (distanceIn (spacingOf before after) ≡ sinceOf before after)
 
 -- The fields of a built command are the parts: fields-built
 abbrev pub FieldsBuilt : Type 0

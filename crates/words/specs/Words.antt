@@ -2,9 +2,11 @@
 -- of time must not be mixable by mistake, and neither must a command word and a status word" is kept by the types of the code. A word is
 -- below 2 ^ 16. Assumes nothing.
 use Prim.Native.Nat.{ℕ, _+_, _-_, _*_, _/_, _%_, _^_}
-use mathlib.Core.Bool.{Bool, cond, _&&_, _||_}
+use mathlib.Core.Bool.{Bool, true, false, cond, _&&_, _||_}
 use lib.Dec.{eqb, ltb, leb}
 use lib.Count.{onesIn}
+use Rattle.words.specs.declared.times.Spacing.{Spacing}
+use Rattle.words.specs.declared.times.Spacing.the-variants.{Overlapping, BackToBack, Separated}
 use Rattle.words.specs.declared.statuses.Flag.{Flag}
 use Rattle.words.specs.declared.statuses.Flag.the-variants.{MessageError, ServiceRequest, BroadcastReceived, Busy, Subsystem, Terminal}
 
@@ -49,6 +51,35 @@ spacingMost = 205
 
 unfoldable pub isSpaced : ℕ → ℕ → Bool
 isSpaced before after = leb spacingLeast (sinceOf before after) && leb (sinceOf before after) spacingMost
+
+-- "The spacing test .. shall answer overlapping (below 195), back to back, or separated (above 205), with the distance." (02 i): `isSpaced` is that
+-- it answers back to back (`kinds-exact`). A word that is not later than the one before overlaps it, with the distance 0 (house).
+unfoldable pub spacingOf : ℕ → ℕ → Spacing
+spacingOf before after =
+    cond (ltb (sinceOf before after) spacingLeast) (Overlapping (record { 0 = sinceOf before after }))
+    (cond (leb (sinceOf before after) spacingMost) (BackToBack (record { 0 = sinceOf before after }))
+    (Separated (record { 0 = sinceOf before after })))
+
+-- which of the three it is, and the distance
+abbrev pub isOverlapping : Spacing → Bool
+isOverlapping (Overlapping distance) = true
+isOverlapping (BackToBack distance) = false
+isOverlapping (Separated distance) = false
+
+abbrev pub isBackToBack : Spacing → Bool
+isBackToBack (Overlapping distance) = false
+isBackToBack (BackToBack distance) = true
+isBackToBack (Separated distance) = false
+
+abbrev pub isSeparated : Spacing → Bool
+isSeparated (Overlapping distance) = false
+isSeparated (BackToBack distance) = false
+isSeparated (Separated distance) = true
+
+abbrev pub distanceIn : Spacing → ℕ
+distanceIn (Overlapping distance) = distance .0
+distanceIn (BackToBack distance) = distance .0
+distanceIn (Separated distance) = distance .0
 
 -- "the last word's time plus 260, a gap of 80 (8.0 microseconds; the standard allows 4.0 to 12.0)" (01 The terminal; 003 7.3.3.8, 002 2.8.1)
 abbrev pub dueDistance : ℕ

@@ -24,6 +24,8 @@ pub use refusals::Refusal;
 pub use statuses::Flag;
 pub use statuses::StatusWord;
 pub use times::Moment;
+pub use times::Spacing;
 pub use times::Ticks;
 pub use times::gap;
 pub use times::is_spaced;
+pub use times::spacing_between;

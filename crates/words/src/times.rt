@@ -2,7 +2,7 @@
 // specs/Words.antt. Refusals: none. "A moment and a length of time must not be mixable by mistake": two types.
 ghost use mathlib.Core.Path.{_≡_};
 ghost use mathlib.Core.List.{[], _∷_};
-ghost use Rattle.words.specs.Words.{onClock, plusOf, sinceOf, gapOf, isSpaced};
+ghost use Rattle.words.specs.Words.{onClock, plusOf, sinceOf, gapOf, isSpaced, spacingOf, isBackToBack};
 ghost use Rattle.words.specs.Words.{wordTicks, parityMiddle, backToBackGap, spacingLeast, spacingMost, dueDistance, noResponseDistance};
 
 // A moment, in "ticks of 0.1 microsecond". "A word's time is the zero crossing in the middle of its sync."
@@ -91,11 +91,49 @@ pub fn gap(before: Moment, after: Moment) -> Ticks
     after.since(before.plus(Ticks::PARITY_MIDDLE))
 }
 
-// Says whether a word is 195 to 205 ticks after the one before. Every spacing test of the card is this one or keeps its promise.
+// How a word stands to the one before it, with the distance (02 i).
+pub enum Spacing {
+    // "overlapping (below 195)"
+    Overlapping(Ticks),
+    // "back to back"
+    BackToBack(Ticks),
+    // "separated (above 205)"
+    Separated(Ticks),
+}
+
+impl Spacing {
+    // Says whether the two words are back to back.
+    fn is_back_to_back(self) -> bool
+        ensures answer { λ r. ⌜ r ≡ isBackToBack self ⌝ }
+    {
+        match self {
+            Spacing::Overlapping(_) => false,
+            Spacing::BackToBack(_) => true,
+            Spacing::Separated(_) => false,
+        }
+    }
+}
+
+// Gives how a word stands to the one before it, and how many ticks after it comes: 0 where it is not later, which overlaps. Every spacing test of the
+// card is this one or keeps its promise.
+// Tables: none. Refusals: none.
+pub fn spacing_between(before: Moment, after: Moment) -> Spacing
+    ensures spacing { λ r. ⌜ r ≡ spacingOf (before .0) (after .0) ⌝ }
+{
+    let distance = after.since(before);
+    if distance.0 < Ticks::SPACING_LEAST.0 {
+        return Spacing::Overlapping(distance);
+    }
+    if distance.0 <= Ticks::SPACING_MOST.0 {
+        return Spacing::BackToBack(distance);
+    }
+    Spacing::Separated(distance)
+}
+
+// Says whether a word is 195 to 205 ticks after the one before, for those who ask no more.
 // Tables: none. Refusals: none.
 pub fn is_spaced(before: Moment, after: Moment) -> bool
     ensures answer { λ r. ⌜ r ≡ isSpaced (before .0) (after .0) ⌝ }
 {
-    let distance = after.since(before);
-    (Ticks::SPACING_LEAST.0 <= distance.0) & (distance.0 <= Ticks::SPACING_MOST.0)
+    spacing_between(before, after).is_back_to_back()
 }
