@@ -7,12 +7,15 @@ use native.Mathlib.Omega.{arith}
 use lib.Dec.{eqb, ltb, leb}
 use lib.ListN.{replicate}
 use borrow.Author.Tests.{ltb-false, le-ltb, eqb-true, eqb-false, eq-eqb, not-false}
-use Rattle.words.specs.Words.{isBroadcast, noResponseDistance, spacingMost, sinceOf, gapOf, isSpaced, addressOf, hasFlag, isValid, commandSync, dataSync}
+use Rattle.words.specs.Words.{isBroadcast, noResponseDistance, spacingMost, sinceOf, gapOf, isSpaced, spacingOf, isBackToBack, addressOf, hasFlag, isValid, commandSync, dataSync}
+use Rattle.words.specs.declared.times.Spacing.{Spacing}
+use Rattle.words.specs.declared.times.Spacing.the-variants.{Overlapping, BackToBack, Separated}
 use Rattle.words.specs.declared.statuses.Flag.the-variants.{MessageError, Busy}
+use Rattle.words.proofs.Spacings.{kinds-exact}
 use Rattle.records.specs.declared.forms.WordRecord.{WordRecord}
 use Rattle.verdict.specs.Plans.{sentOf, partOf, backOf, expectedOf}
-use Rattle.verdict.specs.Numbers.{good, noResponse, waiting, early, late, notValid, wrongSync, wrongAddress, messageError, busy, badlySpaced}
-use Rattle.verdict.specs.Facts.{responseMost, gapLeast, gapMost, listenedLeast, flagFact, statusFact, dataFact, factOf, endOf}
+use Rattle.verdict.specs.Numbers.{good, noResponse, waiting, early, late, notValid, wrongSync, wrongAddress, messageError, busy, separated}
+use Rattle.verdict.specs.Facts.{responseMost, gapLeast, gapMost, listenedLeast, flagFact, statusFact, spacingFact, dataFact, factOf, endOf}
 use Rattle.verdict.specs.Verdicts.{findingOver, findingOf}
 use Rattle.verdict.specs.Theorems.{GoodStatus, GoodData, Good, over, status, word, GoodExactly}
 use Rattle.verdict.specs.declared.plans.Plan.{Plan}
@@ -27,6 +30,17 @@ use Rattle.verdict.proofs.Tests.{cond-cases, and-left}
 passes : (b : Bool) (x y : ℕ) → (x ≡ good → ⊥) → cond b x y ≡ good → (b ≡ false) × (y ≡ good)
 passes true x y bad h = absurd (bad h)
 passes false x y bad h = (refl, h)
+
+-- a spacing that is good is back to back, and what comes then is good; back to back, that decides
+passes-spacing : (s : Spacing) (next : ℕ) → spacingFact s next ≡ good → (isBackToBack s ≡ true) × (next ≡ good)
+passes-spacing (Overlapping distance) next h = absurd (omega arith)
+passes-spacing (BackToBack distance) next h = (refl, h)
+passes-spacing (Separated distance) next h = absurd (omega arith)
+
+after-spacing : (s : Spacing) (next : ℕ) → isBackToBack s ≡ true → spacingFact s next ≡ next
+after-spacing (Overlapping distance) next h = absurd (true≢false (sym h))
+after-spacing (BackToBack distance) next h = refl
+after-spacing (Separated distance) next h = absurd (true≢false (sym h))
 
 -- a valid word has one of the two syncs
 valid-sync : (r : WordRecord) → isValid (r .sync) (r .faults) (r .word) (r .parity) ≡ true → (eqb (r .sync) commandSync || eqb (r .sync) dataSync) ≡ true
@@ -91,17 +105,17 @@ good-status address unjudged last r g =
 data-good : (last : ℕ) (r : WordRecord) → dataFact last r ≡ good → GoodData last r
 unfolding dataFact
 data-good last r h =
-    let spaced = passes (not (isSpaced last (r .time .0))) badlySpaced _ (λ e. omega arith) h in
+    let spaced = passes-spacing (spacingOf last (r .time .0)) _ h in
     let valid = passes (not (isValid (r .sync) (r .faults) (r .word) (r .parity))) notValid _ (λ e. omega arith) (spaced .1) in
     let sync = passes (eqb (r .sync) commandSync) wrongSync good (λ e. omega arith) (valid .1) in
     let is-valid = not-false _ (valid .0) in
-    record { spaced = not-false _ (spaced .0); valid = is-valid; sync = other-one (r .sync) dataSync commandSync (or-swap (eqb (r .sync) commandSync) (eqb (r .sync) dataSync) (valid-sync r is-valid)) (sync .0) }
+    record { spaced = sym (kinds-exact last (r .time .0) .1) ∙ spaced .0; valid = is-valid; sync = other-one (r .sync) dataSync commandSync (or-swap (eqb (r .sync) commandSync) (eqb (r .sync) dataSync) (valid-sync r is-valid)) (sync .0) }
 
 pub good-data : (last : ℕ) (r : WordRecord) → GoodData last r → dataFact last r ≡ good
 unfolding dataFact
 good-data last r g =
     let no-command : eqb (r .sync) commandSync ≡ false = rw (g .sync) in
-    rw (g .spaced, g .valid, no-command)
+    rw (after-spacing (spacingOf last (r .time .0)) _ (kinds-exact last (r .time .0) .1 ∙ g .spaced), g .valid, no-command)
 
 -- ---- over the list of what is expected
 
@@ -151,7 +165,7 @@ back-good [] real last until (r ∷ rs) h = absurd (omega arith)
 back-good (Status address unjudged ∷ es) real last until [] h =
     absurd (missing (leb noResponseDistance (sinceOf last until)) noResponse waiting (λ e. omega arith) (λ e. omega arith) h)
 back-good (Data ∷ es) real last until [] h =
-    absurd (missing (ltb spacingMost (sinceOf last until)) badlySpaced waiting (λ e. omega arith) (λ e. omega arith) h)
+    absurd (missing (ltb spacingMost (sinceOf last until)) separated waiting (λ e. omega arith) (λ e. omega arith) h)
 back-good (Nothing ∷ es) real last until rs h = absurd real
 back-good (Status address unjudged ∷ es) real last until (r ∷ rs) h =
     let first = fact-first (statusFact address unjudged last r) (verdictOver es (r .time .0) until rs) (sym (verdict-step (Status address unjudged) es last until r rs) ∙ h) in

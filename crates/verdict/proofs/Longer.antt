@@ -19,7 +19,7 @@ use Rattle.records.specs.declared.forms.WordRecord.{WordRecord}
 use Rattle.records.specs.declared.forms.Read.{Read}
 use Rattle.records.specs.declared.forms.Read.the-variants.{Record, Refused}
 use Rattle.verdict.specs.Plans.{isPossible, planRefusal, expectedOf}
-use Rattle.verdict.specs.Numbers.{good, noResponse, waiting, badlySpaced}
+use Rattle.verdict.specs.Numbers.{good, noResponse, waiting, separated}
 use Rattle.verdict.specs.Facts.{factOf, endOf, listenedLeast}
 use Rattle.verdict.specs.Verdicts.{recordRefusal, goOn, returnedFrom, returnedOf, findingOver, findingOf, verdictOf}
 use Rattle.verdict.specs.Theorems.{withUntil, isFinal, Longer}
@@ -54,7 +54,7 @@ module _ (plan : Plan) (moment : Moment) (later : plan .until .0 ≤ moment .0) 
       (λ h. le-leb noResponseDistance (sinceOf last (moment .0)) (omega (arith, leb-true noResponseDistance (sinceOf last (plan .until .0)) h)))
       refl
   end-longer Data last =
-      settles (ltb spacingMost (sinceOf last (plan .until .0))) (ltb spacingMost (sinceOf last (moment .0))) badlySpaced
+      settles (ltb spacingMost (sinceOf last (plan .until .0))) (ltb spacingMost (sinceOf last (moment .0))) separated
       (λ h. lt-ltb spacingMost (sinceOf last (moment .0)) (omega (arith, ltb-true spacingMost (sinceOf last (plan .until .0)) h)))
       refl
   end-longer Nothing last =

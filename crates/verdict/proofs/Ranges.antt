@@ -1,4 +1,4 @@
--- The numbers of a finding: the verdict is one of 0 to 11, and at most 35 records are looked at. Assumes nothing.
+-- The numbers of a finding: the verdict is one of 0 to 12, and at most 35 records are looked at. Assumes nothing.
 use mathlib.Core.Path.{_≡_, refl, ap}
 use Prim.Native.Nat.{ℕ, suc, _+_, _≤_}
 use mathlib.Core.Bool.{Bool, true, false, not, cond}
@@ -10,6 +10,8 @@ use borrow.Author.Tests.{not-true}
 use Rattle.words.specs.Words.{isBroadcast, isTransmit, isMode}
 use Rattle.words.specs.Modes.{listingOf}
 use Rattle.words.specs.Refusals.{notRefused, refusedImpossiblePlan}
+use Rattle.words.specs.declared.times.Spacing.{Spacing}
+use Rattle.words.specs.declared.times.Spacing.the-variants.{Overlapping, BackToBack, Separated}
 use Rattle.words.specs.declared.modes.Listing.{Listing}
 use Rattle.words.specs.declared.modes.Listing.the-variants.{Reserved, Listed}
 use Rattle.words.specs.declared.modes.ModeWord.the-variants.{None, Sent, Received}
@@ -18,8 +20,8 @@ use Rattle.words.proofs.Truth.{and-both, cond-most}
 use Rattle.records.specs.Files.{Walk, whole, stops}
 use Rattle.records.specs.declared.forms.WordRecord.{WordRecord}
 use Rattle.verdict.specs.Plans.{isPair, isPossible, planRefusal, sentBy, sentOf, partOf, backOf, expectedOf}
-use Rattle.verdict.specs.Numbers.{good}
-use Rattle.verdict.specs.Facts.{flagFact, statusFact, dataFact, factOf, endOf}
+use Rattle.verdict.specs.Numbers.{good, lastVerdict}
+use Rattle.verdict.specs.Facts.{flagFact, statusFact, spacingFact, dataFact, factOf, endOf}
 use Rattle.verdict.specs.Verdicts.{findingOver, findingOf, lookedOf, decide, lookedOr}
 use Rattle.verdict.specs.Theorems.{VerdictRange, LookedBound}
 use Rattle.verdict.specs.declared.judges.Finding.{Finding}
@@ -33,28 +35,34 @@ use Rattle.verdict.proofs.Tests.{cond-cases, and-left}
 
 -- ---- the verdict
 
+-- of a spacing, and what comes then
+spacing-range : (s : Spacing) (next : ℕ) → next ≤ lastVerdict → spacingFact s next ≤ lastVerdict
+spacing-range (Overlapping distance) next h = lit≤ tt
+spacing-range (BackToBack distance) next h = h
+spacing-range (Separated distance) next h = lit≤ tt
+
 -- of each fact
-fact-range : (e : Expected) (last : ℕ) (r : WordRecord) → factOf e last r ≤ 11
+fact-range : (e : Expected) (last : ℕ) (r : WordRecord) → factOf e last r ≤ lastVerdict
 unfolding factOf statusFact flagFact dataFact
-fact-range (Status address unjudged) last r = search (cond-most 11, lit≤) depth 12
-fact-range Data last r = search (cond-most 11, lit≤) depth 6
+fact-range (Status address unjudged) last r = search (cond-most lastVerdict, lit≤) depth 12
+fact-range Data last r = search (spacing-range, cond-most lastVerdict, lit≤) depth 6
 fact-range Nothing last r = lit≤ tt
 
 -- of the end
-end-range : (e : Expected) (last until : ℕ) → endOf e last until ≤ 11
+end-range : (e : Expected) (last until : ℕ) → endOf e last until ≤ lastVerdict
 unfolding endOf
-end-range (Status address unjudged) last until = search (cond-most 11, lit≤)
-end-range Data last until = search (cond-most 11, lit≤)
-end-range Nothing last until = search (cond-most 11, lit≤)
+end-range (Status address unjudged) last until = search (cond-most lastVerdict, lit≤)
+end-range Data last until = search (cond-most lastVerdict, lit≤)
+end-range Nothing last until = search (cond-most lastVerdict, lit≤)
 
-over-range : (es : List Expected) (last until : ℕ) (rs : List WordRecord) → verdictOver es last until rs ≤ 11
+over-range : (es : List Expected) (last until : ℕ) (rs : List WordRecord) → verdictOver es last until rs ≤ lastVerdict
 unfolding findingOver
 over-range [] last until [] = end-range Nothing last until
 over-range [] last until (r ∷ rs) = fact-range Nothing last r
 over-range (e ∷ es) last until [] = end-range e last until
 over-range (e ∷ es) last until (r ∷ rs) =
     rw (verdict-step e es last until r rs)
-    (cond-most 11 (eqb (factOf e last r) good) _ _ (over-range es (r .time .0) until rs) (fact-range e last r))
+    (cond-most lastVerdict (eqb (factOf e last r) good) _ _ (over-range es (r .time .0) until rs) (fact-range e last r))
 
 pub verdict-range : VerdictRange
 unfolding findingOf

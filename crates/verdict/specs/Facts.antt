@@ -1,11 +1,13 @@
--- Document 01, "Controller verdicts": "First fact found decides". Assumes nothing.
+-- Document 01, "Controller verdicts", and 02 i: "First fact found decides". Assumes nothing.
 use Prim.Native.Nat.{ℕ}
 use mathlib.Core.Bool.{Bool, not, cond}
 use lib.Dec.{eqb, ltb, leb}
-use Rattle.words.specs.Words.{sinceOf, gapOf, isSpaced, spacingMost, noResponseDistance, addressOf, hasFlag, isValid, commandSync, dataSync}
+use Rattle.words.specs.Words.{sinceOf, gapOf, spacingOf, spacingMost, noResponseDistance, addressOf, hasFlag, isValid, commandSync, dataSync}
+use Rattle.words.specs.declared.times.Spacing.{Spacing}
+use Rattle.words.specs.declared.times.Spacing.the-variants.{Overlapping, BackToBack, Separated}
 use Rattle.words.specs.declared.statuses.Flag.the-variants.{MessageError, Busy}
 use Rattle.records.specs.declared.forms.WordRecord.{WordRecord}
-use Rattle.verdict.specs.Numbers.{good, noResponse, waiting, early, late, notValid, wrongSync, wrongAddress, messageError, busy, badlySpaced, leftOver}
+use Rattle.verdict.specs.Numbers.{good, noResponse, waiting, early, late, notValid, wrongSync, wrongAddress, messageError, busy, separated, leftOver, overlapping}
 use Rattle.verdict.specs.declared.plans.Expected.{Expected}
 use Rattle.verdict.specs.declared.plans.Expected.the-variants.{Status, Data, Nothing}
 
@@ -43,10 +45,16 @@ statusFact address unjudged last r =
     (cond (eqb (r .sync) dataSync) wrongSync
     (cond (not (eqb (addressOf (r .word)) address)) wrongAddress (cond unjudged good (flagFact r)))))))
 
--- "Data: not 195 to 205 after the last word ..: 10 .. Then not valid: 5. Command sync: 6."
+-- "the verdict splits 10 into 10 separated or missing and 12 overlapping" (02 i); back to back, what comes "then" decides
+abbrev pub spacingFact : Spacing → ℕ → ℕ
+spacingFact (Overlapping distance) next = overlapping
+spacingFact (BackToBack distance) next = next
+spacingFact (Separated distance) next = separated
+
+-- "Data: not 195 to 205 after the last word ..: 10 .. Then not valid: 5. Command sync: 6.", with 10 split
 unfoldable pub dataFact : ℕ → WordRecord → ℕ
 dataFact last r =
-    cond (not (isSpaced last (r .time .0))) badlySpaced
+    spacingFact (spacingOf last (r .time .0))
     (cond (not (isValid (r .sync) (r .faults) (r .word) (r .parity))) notValid (cond (eqb (r .sync) commandSync) wrongSync good))
 
 -- of a record where that is expected, the last word at that time; "A record left over: 11."
@@ -61,5 +69,5 @@ factOf Nothing last r = leftOver
 -- "Then 2 if Q is below the last word plus 220, else 0 good."
 unfoldable pub endOf : Expected → ℕ → ℕ → ℕ
 endOf (Status address unjudged) last until = cond (leb noResponseDistance (sinceOf last until)) noResponse waiting
-endOf Data last until = cond (ltb spacingMost (sinceOf last until)) badlySpaced waiting
+endOf Data last until = cond (ltb spacingMost (sinceOf last until)) separated waiting
 endOf Nothing last until = cond (ltb (sinceOf last until) listenedLeast) waiting good

@@ -1,4 +1,4 @@
--- Document 01, "Controller verdicts": the numbers of verdicts. Assumes nothing.
+-- Document 01, "Controller verdicts", and 02 i: the numbers of verdicts. Assumes nothing.
 use Prim.Native.Nat.{ℕ}
 
 -- "0 good"
@@ -41,10 +41,18 @@ messageError = 8
 abbrev pub busy : ℕ
 busy = 9
 
--- "not 195 to 205 after the last word, or missing ..: 10"
-abbrev pub badlySpaced : ℕ
-badlySpaced = 10
+-- "not 195 to 205 after the last word, or missing ..: 10", narrowed to "10 separated or missing" (02 i)
+abbrev pub separated : ℕ
+separated = 10
 
 -- "A record left over: 11."
 abbrev pub leftOver : ℕ
 leftOver = 11
+
+-- "12 overlapping" (02 i)
+abbrev pub overlapping : ℕ
+overlapping = 12
+
+-- "the report counts verdicts 0 to 12" (02 i): the last number; whatever goes over all verdicts cites it
+abbrev pub lastVerdict : ℕ
+lastVerdict = 12

@@ -12,7 +12,7 @@ use Rattle.words.specs.declared.times.Moment.{Moment}
 use Rattle.words.specs.declared.statuses.Flag.the-variants.{MessageError, Busy}
 use Rattle.records.specs.declared.forms.WordRecord.{WordRecord}
 use Rattle.verdict.specs.Plans.{planRefusal, expectedOf}
-use Rattle.verdict.specs.Numbers.{good, noResponse, waiting, badlySpaced}
+use Rattle.verdict.specs.Numbers.{good, noResponse, waiting, separated, lastVerdict}
 use Rattle.verdict.specs.Facts.{gapLeast, gapMost, listenedLeast, factOf}
 use Rattle.verdict.specs.Verdicts.{findingOf, verdictOf, lookedOf, judgedOf, expectedAt, finishOf}
 use Rattle.verdict.specs.declared.judges.Finding.{Finding}
@@ -21,9 +21,9 @@ use Rattle.verdict.specs.declared.plans.Plan.{Plan}
 use Rattle.verdict.specs.declared.plans.Expected.{Expected}
 use Rattle.verdict.specs.declared.plans.Expected.the-variants.{Status, Data}
 
--- The verdict is one of 0 to 11: verdict-range
+-- The verdict is one of 0 to 12: verdict-range
 abbrev pub VerdictRange : Type 0
-VerdictRange = (plan : Plan) (rs : List WordRecord) → verdictOf plan rs ≤ 11
+VerdictRange = (plan : Plan) (rs : List WordRecord) → verdictOf plan rs ≤ lastVerdict
 
 -- ---- what good means
 
@@ -70,7 +70,7 @@ withUntil plan moment =
 
 -- a verdict that takes the place of "2 still waiting"
 abbrev pub isFinal : ℕ → Bool
-isFinal verdict = eqb verdict good || eqb verdict noResponse || eqb verdict badlySpaced
+isFinal verdict = eqb verdict good || eqb verdict noResponse || eqb verdict separated
 
 -- The same bytes with a later Q on the clock: a verdict is given again, on as many records, the same, or in place of 2 a final one: longer
 abbrev pub Longer : Type 0

@@ -1,4 +1,4 @@
-// The facts that decide a verdict (01 Controller verdicts: "First fact found decides"). Meaning: specs/Facts.antt. Inner functions: the
+// The facts that decide a verdict (01 Controller verdicts: "First fact found decides"; 02 i). Meaning: specs/Facts.antt. Inner functions: the
 // judge calls them. Refusals: none.
 ghost use mathlib.Core.Path.{_≡_};
 ghost use Rattle.verdict.specs.Facts.{flagFact, statusFact, dataFact, factOf, endOf};
@@ -9,6 +9,7 @@ use words::COMMAND_SYNC;
 use words::DATA_SYNC;
 use words::Flag;
 use words::Moment;
+use words::Spacing;
 use words::StatusWord;
 use words::Ticks;
 
@@ -69,16 +70,19 @@ fn status_fact(address: u16, unjudged: bool, last: Moment, heard: WordRecord) ->
 pub(crate) fn data_fact(last: Moment, heard: WordRecord) -> Verdict
     ensures fact { λ r. ⌜ r .0 ≡ dataFact (last .0) heard ⌝ }
 {
-    if !words::is_spaced(last, heard.time) {
-        return Verdict::BADLY_SPACED;
+    match words::spacing_between(last, heard.time) {
+        Spacing::Overlapping(_) => Verdict::OVERLAPPING,
+        Spacing::Separated(_) => Verdict::SEPARATED,
+        Spacing::BackToBack(_) => {
+            if !words::is_valid(heard.sync, heard.faults, heard.word, heard.parity) {
+                return Verdict::NOT_VALID;
+            }
+            if heard.sync == COMMAND_SYNC {
+                return Verdict::WRONG_SYNC;
+            }
+            Verdict::GOOD
+        }
     }
-    if !words::is_valid(heard.sync, heard.faults, heard.word, heard.parity) {
-        return Verdict::NOT_VALID;
-    }
-    if heard.sync == COMMAND_SYNC {
-        return Verdict::WRONG_SYNC;
-    }
-    Verdict::GOOD
 }
 
 impl Expected {
@@ -107,7 +111,7 @@ impl Expected {
             }
             Expected::Data => {
                 if Ticks::SPACING_MOST.0 < listened {
-                    return Verdict::BADLY_SPACED;
+                    return Verdict::SEPARATED;
                 }
                 Verdict::WAITING
             }

@@ -1,7 +1,7 @@
-// The numbers of verdicts (01 Controller verdicts). Later requests append; one that narrows a number (10, by 02 i) says so. Meaning: specs/Numbers.antt.
+// The numbers of verdicts (01 Controller verdicts; 02 i). Later requests append; one that narrows a number (10, by 02 i) says so. Meaning: specs/Numbers.antt.
 ghost use mathlib.Core.Path.{_≡_};
 ghost use mathlib.Core.List.{[], _∷_};
-ghost use Rattle.verdict.specs.Numbers.{good, noResponse, waiting, early, late, notValid, wrongSync, wrongAddress, messageError, busy, badlySpaced, leftOver};
+ghost use Rattle.verdict.specs.Numbers.{good, noResponse, waiting, early, late, notValid, wrongSync, wrongAddress, messageError, busy, separated, leftOver, overlapping, lastVerdict};
 
 // The number of a verdict.
 pub struct Verdict(pub u8);
@@ -27,15 +27,19 @@ impl Verdict {
     pub const MESSAGE_ERROR: Verdict = Verdict(8);
     // "Busy: 9."
     pub const BUSY: Verdict = Verdict(9);
-    // "not 195 to 205 after the last word, or missing ..: 10"
-    pub const BADLY_SPACED: Verdict = Verdict(10);
+    // "not 195 to 205 after the last word, or missing ..: 10", narrowed to "10 separated or missing" (02 i)
+    pub const SEPARATED: Verdict = Verdict(10);
     // "A record left over: 11."
     pub const LEFT_OVER: Verdict = Verdict(11);
+    // "12 overlapping" (02 i)
+    pub const OVERLAPPING: Verdict = Verdict(12);
+    // "verdicts 0 to 12" (02 i): the last number, for whoever goes over them all
+    pub const LAST: Verdict = Verdict(12);
 }
 
 // Gives the numbers above. Nothing calls it: its promise holds each to the definition that contracts cite.
-fn list_numbers() -> [u8; 12]
-    ensures all { λ r. ⌜ r ≡ good ∷ noResponse ∷ waiting ∷ early ∷ late ∷ notValid ∷ wrongSync ∷ wrongAddress ∷ messageError ∷ busy ∷ badlySpaced ∷ leftOver ∷ [] ⌝ }
+fn list_numbers() -> [u8; 14]
+    ensures all { λ r. ⌜ r ≡ good ∷ noResponse ∷ waiting ∷ early ∷ late ∷ notValid ∷ wrongSync ∷ wrongAddress ∷ messageError ∷ busy ∷ separated ∷ leftOver ∷ overlapping ∷ lastVerdict ∷ [] ⌝ }
 {
     [
         Verdict::GOOD.0,
@@ -48,7 +52,9 @@ fn list_numbers() -> [u8; 12]
         Verdict::WRONG_ADDRESS.0,
         Verdict::MESSAGE_ERROR.0,
         Verdict::BUSY.0,
-        Verdict::BADLY_SPACED.0,
+        Verdict::SEPARATED.0,
         Verdict::LEFT_OVER.0,
+        Verdict::OVERLAPPING.0,
+        Verdict::LAST.0,
     ]
 }
