@@ -1,7 +1,9 @@
--- What C gets: numbers for yes and no, a record and a plan as six numbers, and what stays behind a pointer. Assumes nothing.
+-- What C gets: numbers for yes and no and for a kind of spacing, a record and a plan as six numbers, and what stays behind a pointer. Assumes nothing.
 use mathlib.Core.Bool.{Bool, cond}
 use Prim.Native.Nat.{ℕ}
 use Rattle.words.specs.Refusals.{notRefused}
+use Rattle.words.specs.declared.times.Spacing.{Spacing}
+use Rattle.words.specs.declared.times.Spacing.the-variants.{Overlapping, BackToBack, Separated}
 use Rattle.records.specs.declared.forms.WordRecord.{WordRecord}
 use Rattle.records.specs.declared.forms.Read.{Read}
 use Rattle.records.specs.declared.forms.Read.the-variants as read
@@ -12,6 +14,12 @@ use Rattle.verdict.specs.declared.plans.Plan.{Plan}
 -- 1 for yes, else 0.
 unfoldable pub oneIf : Bool → ℕ
 oneIf answer = cond answer 1 0
+
+-- "overlapping (below 195), back to back, or separated (above 205)" (02 i): 0, 1, 2 in this order (house).
+abbrev pub spacingNumber : Spacing → ℕ
+spacingNumber (Overlapping distance) = 0
+spacingNumber (BackToBack distance) = 1
+spacingNumber (Separated distance) = 2
 
 -- The record of six numbers.
 abbrev pub recordOf : ℕ → ℕ → ℕ → ℕ → ℕ → ℕ → WordRecord

@@ -2,12 +2,12 @@
 // of `words`, `records` or `verdict` and says the same definition. Nothing is allocated, nothing is kept between calls, every call returns for any
 // argument. A call that may be refused gives the refusal's number, or 0. Types for C: include/buscard.h.
 ghost use mathlib.Core.Path.{_≡_};
-ghost use Rattle.buscard.specs.Answers.{oneIf, recordOf, fieldOr, countOr, countRefusal, planOf};
+ghost use Rattle.buscard.specs.Answers.{oneIf, spacingNumber, recordOf, fieldOr, countOr, countRefusal, planOf};
 ghost use Rattle.records.specs.Records.{readOf, refusalOf, writeRefusal, writtenOf};
 ghost use Rattle.records.specs.Files.{countedOf};
 ghost use Rattle.records.specs.declared.forms.WordRecord.{WordRecord};
 ghost use Rattle.verdict.specs.Verdicts.{judgedOf, refusalIn, verdictOr, lookedOr};
-ghost use Rattle.words.specs.Words.{parityOf, isValid, isSpaced, commandOf, addressOf, transmitOf, subaddressOf, countOf, wordsOf, isMode, statusOf, flagsOf};
+ghost use Rattle.words.specs.Words.{parityOf, isValid, isSpaced, spacingOf, distanceIn, commandOf, addressOf, transmitOf, subaddressOf, countOf, wordsOf, isMode, statusOf, flagsOf};
 use records::Counted;
 use records::Read;
 use records::WordRecord;
@@ -16,7 +16,15 @@ use verdict::Plan;
 use words::CommandWord;
 use words::Moment;
 use words::Refusal;
+use words::Spacing;
 use words::StatusWord;
+
+// "overlapping (below 195), back to back, or separated (above 205)" (02 i)
+const OVERLAPPING: u8 = 0;
+
+const BACK_TO_BACK: u8 = 1;
+
+const SEPARATED: u8 = 2;
 
 // Gives 1 for yes and 0 for no.
 fn number(answer: bool) -> u8
@@ -50,6 +58,29 @@ pub extern "C" fn bus_word_spaced(before: u64, after: u64) -> u8
     ensures answer { λ r. ⌜ r ≡ oneIf (isSpaced before after) ⌝ }
 {
     number(words::is_spaced(Moment(before), Moment(after)))
+}
+
+// Gives 0 if the second word overlaps the first, 1 if it is back to back, 2 if it is separated from it, and how many ticks past the first it comes.
+// Tables: distance holds the ticks, 0 where the second is not later. Refusals: none.
+#[no_mangle]
+pub extern "C" fn bus_word_spacing(before: u64, after: u64, distance: &mut u64) -> u8
+    ensures kind { λ r. ⌜ r ≡ spacingNumber (spacingOf before after) ⌝ }
+    ensures distance { λ _. ⌜ now (distance .exit) ≡ distanceIn (spacingOf before after) ⌝ }
+{
+    match words::spacing_between(Moment(before), Moment(after)) {
+        Spacing::Overlapping(ticks) => {
+            *distance = ticks.0;
+            OVERLAPPING
+        }
+        Spacing::BackToBack(ticks) => {
+            *distance = ticks.0;
+            BACK_TO_BACK
+        }
+        Spacing::Separated(ticks) => {
+            *distance = ticks.0;
+            SEPARATED
+        }
+    }
 }
 
 // Gives the command word of the low 5, 1, 5 and 5 bits.
@@ -223,7 +254,7 @@ pub extern "C" fn bus_file_check(bytes: &[u8], records: &mut u64) -> u8
 
 // Gives 0, the verdict on a plan of one or two commands and how many returned records were looked at for it, or the number of the refusal. last is
 // E, until is Q; of one command the second word is not read.
-// Tables: records is only read; verdict holds 0 to 11, looked 0 to 35, after a refusal both are as before.
+// Tables: records is only read; verdict holds 0 to 12, looked 0 to 35, after a refusal both are as before.
 // Refusals: 7, impossible plan; 5, bus, E, Q, Q below E; then record by record 3, 4, 5, 6.
 #[no_mangle]
 pub extern "C" fn bus_verdict_looked(
@@ -260,7 +291,7 @@ pub extern "C" fn bus_verdict_looked(
 }
 
 // Gives 0 and the verdict as bus_verdict_looked does, without the number looked at, or the number of the refusal.
-// Tables: records is only read; verdict holds 0 to 11, after a refusal it is as before. Refusals: as bus_verdict_looked.
+// Tables: records is only read; verdict holds 0 to 12, after a refusal it is as before. Refusals: as bus_verdict_looked.
 #[no_mangle]
 pub extern "C" fn bus_verdict_give(
     commands: u8,
