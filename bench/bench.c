@@ -14,7 +14,7 @@
 
 enum { ALL_READ, REFUSED, UNUSABLE, DISAGREE };
 
-/* Document 01's words. Of refusal 6 the half that is about records: this program has no events. */
+/* The words of document 01, and of request i. Of refusal 6 the half that is about records: this program has no events. */
 static const char *const verdicts[] = {
     [BUS_VERDICT_GOOD] = "good",
     [BUS_VERDICT_NO_RESPONSE] = "no response",
@@ -26,8 +26,9 @@ static const char *const verdicts[] = {
     [BUS_VERDICT_ADDRESS] = "wrong address",
     [BUS_VERDICT_ERROR] = "message error",
     [BUS_VERDICT_BUSY] = "busy",
-    [BUS_VERDICT_SPACING] = "data not 195 to 205 after the last word, or missing",
+    [BUS_VERDICT_SPACING] = "data more than 205 after the last word, or missing",
     [BUS_VERDICT_LEFT_OVER] = "a record left over",
+    [BUS_VERDICT_OVERLAP] = "data less than 195 after the last word",
 };
 static const char *const refusals[] = {
     [BUS_REFUSED_NONE] = "none",

@@ -1,4 +1,4 @@
-/* What busdump does, in plain C, made from the text of request a of document 02, read as DECISIONS 42 to 46 read it, and not
+/* What busdump does, in plain C, made from the text of requests a and i of document 02, read as DECISIONS 42 to 46 read it, and not
  * from the crates: dump [-e] [-v] FILE. It writes the same lines in constant memory: two walks over the file, one a bus, each
  * giving the entries of its bus in order, are merged by the place of an entry's first record; and it says the same of a refused
  * file. Exit status: 0 the log is written, also of a refused file; 2 wrong usage, or a file that cannot be read. */
@@ -75,7 +75,7 @@ static bool is_exempt(uint16_t command)
 
 /* ---- an entry */
 
-enum { GOOD, NO_RESPONSE, WAITING, EARLY, LATE, INVALID, SYNC, ADDRESS, MESSAGE_ERROR, BUSY, SPACING, LEFT_OVER, NONE };
+enum { GOOD, NO_RESPONSE, WAITING, EARLY, LATE, INVALID, SYNC, ADDRESS, MESSAGE_ERROR, BUSY, SPACING, LEFT_OVER, OVERLAP, NONE };
 
 /* What the next record of an entry must be. A record that is something else decides the verdict, so until then the entry's
  * last record is also the last word of the rules. */
@@ -223,7 +223,9 @@ static void judge_second_status(entry *e, const record *r, uint64_t distance)
 
 static void judge_data_word(entry *e, const record *r, uint64_t distance)
 {
-    if (!is_spaced(distance))
+    if (distance < SPACED_LEAST) /* "10 separated or missing and 12 overlapping" */
+        decide(e, OVERLAP);
+    else if (distance > SPACED_MOST)
         decide(e, SPACING);
     else if (!r->valid)
         decide(e, INVALID);
@@ -565,7 +567,7 @@ static char *put_message(char *at, const entry *e)
 {
     static const char *const verdicts[] = {
         "0 good",    "1 no-response", "2 waiting", "3 early", "4 late",     "5 invalid",    "6 sync",
-        "7 address", "8 error",       "9 busy",    "10 spacing", "11 left-over", "- none",
+        "7 address", "8 error",       "9 busy",    "10 spacing", "11 left-over", "12 overlap", "- none",
     };
     at = put_text(at, " msg cmd=");
     at = put_words(at, e->commands, e->command_count);

@@ -1,4 +1,4 @@
-/* Document 01 in plain C. Sentences in quotation marks are its own. */
+/* Document 01 in plain C, with request i of document 02. Sentences in quotation marks are theirs. */
 #include "plain.h"
 
 #include <string.h>
@@ -27,6 +27,20 @@ int plain_valid(uint8_t sync, uint8_t faults, uint16_t word, uint8_t parity)
 int plain_spaced(uint64_t before, uint64_t after)
 {
     return after > before && after - before >= SPACED_LEAST && after - before <= SPACED_MOST;
+}
+
+uint64_t plain_distance(uint64_t before, uint64_t after)
+{
+    return after > before ? after - before : 0;
+}
+
+/* "overlapping (below 195), back to back, or separated (above 205)", of request i */
+unsigned plain_spacing(uint64_t before, uint64_t after)
+{
+    uint64_t distance = plain_distance(before, after);
+    if (distance < SPACED_LEAST)
+        return PLAIN_OVERLAPPING;
+    return distance > SPACED_MOST ? PLAIN_SEPARATED : PLAIN_BACK_TO_BACK;
 }
 
 uint16_t plain_command_build(unsigned address, unsigned transmit, unsigned subaddress, unsigned count)
@@ -242,7 +256,7 @@ typedef struct {
     unsigned looked; /* records taken */
 } walk;
 
-enum { GOOD, NO_RESPONSE, WAITING, EARLY, LATE, INVALID, SYNC, ADDRESS, MESSAGE_ERROR, BUSY, SPACING, LEFT_OVER };
+enum { GOOD, NO_RESPONSE, WAITING, EARLY, LATE, INVALID, SYNC, ADDRESS, MESSAGE_ERROR, BUSY, SPACING, LEFT_OVER, OVERLAP };
 
 /* Takes the next record; 0 where there is none. */
 static int take(walk *w, plain_record *r)
@@ -292,8 +306,10 @@ static unsigned judge_data(walk *w, unsigned words)
         /* "missing with Q more than 205 past it: 10; missing otherwise: 2" */
         if (!take(w, &r))
             return w->until > w->last + SPACED_MOST ? SPACING : WAITING;
-        if (!plain_spaced(w->last, r.time))
-            return SPACING;
+        /* "10 separated or missing and 12 overlapping", of request i */
+        unsigned spacing = plain_spacing(w->last, r.time);
+        if (spacing != PLAIN_BACK_TO_BACK)
+            return spacing == PLAIN_OVERLAPPING ? OVERLAP : SPACING;
         if (!is_valid(&r))
             return INVALID;
         if (r.sync == 0)

@@ -1,4 +1,4 @@
-/* The card's logic once more, in plain C, written from document 01 and its readings alone, so that the proved library
+/* The card's logic once more, in plain C, written from documents 01 and 02 and their readings alone, so that the proved library
  * can be held against it. Numbers and structs of the caller; nothing is allocated and nothing is kept outside them. A
  * call that may be refused gives the refusal's number of document 01, or 0, and after a refusal nothing behind a
  * pointer has changed. The caller answers for pointers; NULL with 0 is an empty table or slice. */
@@ -27,6 +27,11 @@
 unsigned plain_parity(uint16_t word);
 int plain_valid(uint8_t sync, uint8_t faults, uint16_t word, uint8_t parity);
 int plain_spaced(uint64_t before, uint64_t after);
+
+/* How a word stands to the one before it. */
+enum { PLAIN_OVERLAPPING, PLAIN_BACK_TO_BACK, PLAIN_SEPARATED };
+unsigned plain_spacing(uint64_t before, uint64_t after);
+uint64_t plain_distance(uint64_t before, uint64_t after); /* 0 where after is not later */
 
 uint16_t plain_command_build(unsigned address, unsigned transmit, unsigned subaddress, unsigned count);
 unsigned plain_command_address(uint16_t word);
@@ -64,7 +69,7 @@ typedef struct {
     uint64_t until;         /* Q, the moment up to which it listened */
 } plain_plan;
 
-/* The returned records are n bytes, 16 each. 0, the verdict 0 to 11 and how many records it looked at, or 7, 5, 3, 4, 6. */
+/* The returned records are n bytes, 16 each. 0, the verdict 0 to 12 and how many records it looked at, or 7, 5, 3, 4, 6. */
 unsigned plain_verdict(const plain_plan *plan, const uint8_t *bytes, size_t n, uint8_t *verdict, uint8_t *looked);
 
 /* ---- the terminal */

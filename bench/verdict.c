@@ -7,10 +7,11 @@
 
 #define COUNT 1000000
 #define GOOD 0
+#define VERDICTS (BUS_VERDICT_LAST + 1)
 
 /* ---- one call of each */
 
-static unsigned long compared, differ, not_good, verdicts[12], refusals[8], looked[256];
+static unsigned long compared, differ, not_good, verdicts[VERDICTS], refusals[8], looked[256];
 
 /* What a call gives. What is not given stays EE. */
 typedef struct {
@@ -155,7 +156,7 @@ int main(void)
     random_plans();
     printf("%d random plans, %lu calls in all: %lu differ\n", COUNT, compared, differ);
     printf("good courses not judged good: %lu\n", not_good);
-    for (unsigned i = 0; i < 12; i++)
+    for (unsigned i = 0; i < VERDICTS; i++)
         printf("verdict %u: %lu\n", i, verdicts[i]);
     for (unsigned i = 3; i < 8; i++)
         printf("refused %u: %lu\n", i, refusals[i]);

@@ -70,14 +70,22 @@ static void one_word(uint16_t word)
     same("status flags", word, bus_status_flags(word), plain_status_flags(word));
 }
 
+static void one_spacing(uint64_t before, uint64_t after)
+{
+    uint64_t distance = UINT64_MAX;
+    same("spaced", before, bus_word_spaced(before, after), (unsigned)plain_spaced(before, after));
+    same("spacing", before, bus_word_spacing(before, after, &distance), plain_spacing(before, after));
+    same("distance", before, distance, plain_distance(before, after));
+}
+
 static void spacing(void)
 {
     static const uint64_t from[] = {0, 1000, 0xFFFFFFFFFFFF, UINT64_MAX - 300, UINT64_MAX - 200, UINT64_MAX};
     for (unsigned i = 0; i < sizeof from / sizeof *from; i++)
         for (uint64_t d = 0; d < 1000; d++) {
             /* both ways, and past the end of 64 bits, where the second word is the earlier one */
-            same("spaced", from[i], bus_word_spaced(from[i], from[i] + d), (unsigned)plain_spaced(from[i], from[i] + d));
-            same("spaced", from[i], bus_word_spaced(from[i] + d, from[i]), (unsigned)plain_spaced(from[i] + d, from[i]));
+            one_spacing(from[i], from[i] + d);
+            one_spacing(from[i] + d, from[i]);
         }
 }
 

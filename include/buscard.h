@@ -54,8 +54,17 @@ enum {
     BUS_VERDICT_ADDRESS = 7,     /* a status from another address */
     BUS_VERDICT_ERROR = 8,       /* message error in the status; not for mode codes 2 and 18 */
     BUS_VERDICT_BUSY = 9,        /* busy in the status; not for mode codes 2 and 18 */
-    BUS_VERDICT_SPACING = 10,    /* data not 195 to 205 after the last word, or missing */
-    BUS_VERDICT_LEFT_OVER = 11   /* a record more than was expected */
+    BUS_VERDICT_SPACING = 10,    /* data more than 205 after the last word, or missing */
+    BUS_VERDICT_LEFT_OVER = 11,  /* a record more than was expected */
+    BUS_VERDICT_OVERLAP = 12,    /* data less than 195 after the last word */
+    BUS_VERDICT_LAST = 12        /* the last number: a later library may have a later one */
+};
+
+/* How a word stands to the one before it: bus_word_spacing. */
+enum {
+    BUS_SPACING_OVERLAPPING = 0,  /* less than 195 after it, or not later */
+    BUS_SPACING_BACK_TO_BACK = 1, /* 195 to 205 after it */
+    BUS_SPACING_SEPARATED = 2     /* more than 205 after it */
 };
 
 /* The bus of a record. */
@@ -135,6 +144,8 @@ uint8_t bus_word_parity(uint16_t word);
 uint8_t bus_word_valid(uint8_t sync, uint8_t faults, uint16_t word, uint8_t parity);
 /* 1 if after is 195 to 205 ticks past before, else 0. */
 uint8_t bus_word_spaced(uint64_t before, uint64_t after);
+/* Which of BUS_SPACING_ it is, and how many ticks after is past before: 0 where it is not later. */
+uint8_t bus_word_spacing(uint64_t before, uint64_t after, uint64_t *distance);
 
 /* The command word of the low 5, 1, 5 and 5 bits. */
 uint16_t bus_command_build(uint16_t address, uint16_t transmit, uint16_t subaddress,
@@ -174,7 +185,7 @@ uint8_t bus_file_check(const uint8_t *bytes, size_t n, uint64_t *records);
 
 /* The verdict on a plan: commands 1 or 2, their words (of one, second is not read), the bus, last
  * the time E of the controller's last word, until the moment Q up to which it listened, and the
- * returned records, 16 bytes each, without a version byte. 0 and the verdict 0 to 11; or 7
+ * returned records, 16 bytes each, without a version byte. 0 and the verdict 0 to 12; or 7
  * impossible plan, 5 bus, E or Q out of range or Q below E, then of the first bad record 3, 4, 5
  * (also another bus), 6 (not later than the one before, E for the first, or after Q). */
 uint8_t bus_verdict_give(uint8_t commands, uint16_t first, uint16_t second, uint8_t bus,

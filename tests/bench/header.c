@@ -20,7 +20,7 @@ IS(BUS_REFUSED_SCHEDULE, 15);
 
 /* "1 no response .. else 2 still waiting. Gap below 40: 3 early. Above 120: 4 late. Not valid ..:
  * 5. Data sync: 6. Wrong address: 7. Message error: 8. Busy: 9. .. 10 .. A record left over: 11. ..
- * 0 good." */
+ * 0 good.", and of request i "10 separated or missing and 12 overlapping", "verdicts 0 to 12" */
 IS(BUS_VERDICT_GOOD, 0);
 IS(BUS_VERDICT_NO_RESPONSE, 1);
 IS(BUS_VERDICT_WAITING, 2);
@@ -33,6 +33,13 @@ IS(BUS_VERDICT_ERROR, 8);
 IS(BUS_VERDICT_BUSY, 9);
 IS(BUS_VERDICT_SPACING, 10);
 IS(BUS_VERDICT_LEFT_OVER, 11);
+IS(BUS_VERDICT_OVERLAP, 12);
+IS(BUS_VERDICT_LAST, 12);
+
+/* "overlapping (below 195), back to back, or separated (above 205)", in this order */
+IS(BUS_SPACING_OVERLAPPING, 0);
+IS(BUS_SPACING_BACK_TO_BACK, 1);
+IS(BUS_SPACING_SEPARATED, 2);
 
 /* "One version byte, 1, opens the file. Each record: length (2 bytes, always 14), time (8), bus (1:
  * 0 is A, 1 is B), sync (1: 0 command/status, 1 data, 2 neither), receiver faults (1: 1 Manchester,

@@ -30,6 +30,18 @@ void print_status(uint16_t flags)
                 bus_status_flags(word));
 }
 
+/* A word so many ticks behind one at 1000. */
+void print_spacing(uint64_t ticks)
+{
+    uint64_t distance = 255;
+    uint8_t kind = bus_word_spacing(1000, 1000 + ticks, &distance);
+    const char *name = kind == BUS_SPACING_OVERLAPPING    ? "overlapping"
+                       : kind == BUS_SPACING_BACK_TO_BACK ? "back to back"
+                       : kind == BUS_SPACING_SEPARATED    ? "separated"
+                                                          : "another number";
+    std::printf("%u after: %s, distance %u\n", (unsigned)ticks, name, (unsigned)distance);
+}
+
 unsigned valid(uint8_t sync, uint8_t faults, uint8_t parity)
 {
     return bus_word_valid(sync, faults, 0x2842, parity);
@@ -50,6 +62,11 @@ void words()
     std::printf("spaced: 194 %u, 195 %u, 205 %u, 206 %u\n", bus_word_spaced(1000, 1194),
                 bus_word_spaced(1000, 1195), bus_word_spaced(1000, 1205),
                 bus_word_spaced(1000, 1206));
+    print_spacing(0);
+    print_spacing(194);
+    print_spacing(195);
+    print_spacing(205);
+    print_spacing(206);
     print_status(0);
     print_status(BUS_STATUS_MESSAGE_ERROR | BUS_STATUS_BROADCAST_RECEIVED);
     print_status(BUS_STATUS_SERVICE_REQUEST | BUS_STATUS_BUSY | BUS_STATUS_SUBSYSTEM |

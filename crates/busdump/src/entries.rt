@@ -1,4 +1,4 @@
-// The line of an entry (02 a; docs/LINES.md): "Each entry has bus, time, command words, statuses .., numbers of valid data words and of
+// The line of an entry (02 a and i; docs/LINES.md): "Each entry has bus, time, command words, statuses .., numbers of valid data words and of
 // records, the gap before the first status, and the verdict". Refusals: none.
 use crate::options::BUS_A;
 use lines::Block;
@@ -55,7 +55,7 @@ fn put_gap(sink: Sink, block: &mut Block, gap: Gap) -> Sink {
     }
 }
 
-// Puts the number and the name of a verdict, in one text: that is quicker than two.
+// Puts the number and the name of a verdict, 0 to Verdict::LAST, in one text: that is quicker than two.
 fn put_verdict(sink: Sink, block: &mut Block, verdict: Verdict) -> Sink {
     let number = verdict.0;
     match number {
@@ -71,6 +71,7 @@ fn put_verdict(sink: Sink, block: &mut Block, verdict: Verdict) -> Sink {
         9 => sink.put_text(block, b" verdict=9 busy"),
         10 => sink.put_text(block, b" verdict=10 spacing"),
         11 => sink.put_text(block, b" verdict=11 left-over"),
+        12 => sink.put_text(block, b" verdict=12 overlap"),
         _ => sink.put_number(block, b" verdict=", number as u64)
             .put_text(block, b" unnamed"),
     }
