@@ -1,18 +1,22 @@
 -- Document 01, "The terminal": "At an event of time t, in this order", rules 1 to 6. Assumes nothing.
 use Prim.Native.Nat.{ℕ}
-use mathlib.Core.Bool.{Bool, cond, _&&_}
+use mathlib.Core.Bool.{Bool, true, false, cond, _&&_}
 use mathlib.Core.List.{List}
 use lib.Dec.{eqb}
 use lib.ListN.{replicate}
-use Rattle.words.specs.Words.{addressOf, codeOf, isTransmit, isMode, isBroadcast, statusOf, withFlag}
+use Rattle.words.specs.Words.{spacingOf, addressOf, codeOf, isTransmit, isMode, isBroadcast, statusOf, withFlag}
+use Rattle.words.specs.declared.times.Spacing.{Spacing}
+use Rattle.words.specs.declared.times.Spacing.the-variants as spacing
 use Rattle.words.specs.declared.statuses.Flag.the-variants.{MessageError, BroadcastReceived}
 use Rattle.records.specs.declared.forms.WordRecord.{WordRecord}
-use Rattle.terminal.specs.States.{withStatus, withCommand, messageOf, noMessage, atPhase, withWord, noSending, withHeld, withMessage, withSending}
+use Rattle.terminal.specs.States.{withStatus, withCommand, withSpacing, messageOf, noMessage, atPhase, withWord, noSending, withHeld, withMessage, withSending}
 use Rattle.terminal.specs.Commands.{isOwn, isExempt}
 use Rattle.terminal.specs.Messages.{isOn, awaitsData, isDue, isLate, isSending, isNextData, isSecond, isStatusFrom}
 use Rattle.terminal.specs.Settling.{otherBus, settledStatus, replyOf, noAnswer, answerOf, sendingOf, storedOf}
 use Rattle.terminal.specs.Effects.{heldAfter}
 use Rattle.terminal.specs.declared.states.Own.{Own}
+use Rattle.terminal.specs.declared.states.SpacingFault.{SpacingFault}
+use Rattle.terminal.specs.declared.states.SpacingFault.the-variants.{None, Overlapping, Separated}
 use Rattle.terminal.specs.declared.states.Held.{Held}
 use Rattle.terminal.specs.declared.states.Phase.{Phase}
 use Rattle.terminal.specs.declared.states.Phase.the-variants.{Idle, First, Pledged, Data}
@@ -51,11 +55,18 @@ rule1 s t transmit = cond (isDue (s .message) t) (settledOf s transmit) s
 abbrev pub markedOf : Own → Held → ℕ → Held
 markedOf own h word = cond (isExempt own word) h (withStatus h (withFlag MessageError (h .status .0)))
 
-unfoldable pub faultyOf : State → State
-faultyOf s = withMessage (withHeld s (markedOf (s .setup .own) (s .held) (s .message .command .0))) noMessage
+-- "The terminal keeps the kind of its last spacing fault" (02 i): a fault of another cause leaves the kind.
+abbrev pub keptBy : Held → SpacingFault → Held
+keptBy h None = h
+keptBy h Overlapping = withSpacing h true false
+keptBy h Separated = withSpacing h false true
 
+unfoldable pub faultyOf : State → SpacingFault → State
+faultyOf s fault = withMessage (withHeld s (keptBy (markedOf (s .setup .own) (s .held) (s .message .command .0)) fault)) noMessage
+
+-- Every fault of this rule is a spacing fault, whatever event shows it: "separated (above 205)" (02 i; DECISIONS 73).
 unfoldable pub rule2 : State → ℕ → State
-rule2 s t = cond (isLate (s .message) t) (faultyOf s) s
+rule2 s t = cond (isLate (s .message) t) (faultyOf s Separated) s
 
 -- ---- "3. A record on a bus on which the terminal is sending (due time D up to, not including, D + 200 times the words sent) is ignored."
 
@@ -104,8 +115,20 @@ stagedOf m r = withWord (atPhase m Data (r .time)) (r .word)
 unfoldable pub movedOf : Message → Phase → WordRecord → Message
 movedOf m phase r = atPhase m phase (r .time)
 
+-- "overlapping (below 195), back to back, or separated (above 205)" (02 i): which of these is a spacing fault
+abbrev pub faultBy : Spacing → SpacingFault
+faultBy (spacing.Overlapping distance) = Overlapping
+faultBy (spacing.BackToBack distance) = None
+faultBy (spacing.Separated distance) = Separated
+
+-- The spacing fault of a record that is not the next word. While a data word is awaited spacing is asked before validity and sync, also of what comes in
+-- the place of a second command word; it is not asked when all words had come, nor while a status is awaited (DECISIONS 74).
+unfoldable pub faultIn : Message → WordRecord → SpacingFault
+faultIn m r = cond (awaitsData m) (faultBy (spacingOf (m .last .0) (r .time .0))) None
+
 unfoldable pub nextData : State → WordRecord → State
-nextData s r = cond (awaitsData (s .message) && isNextData (s .message) r) (withMessage s (stagedOf (s .message) r)) (faultyOf s)
+nextData s r =
+    cond (awaitsData (s .message) && isNextData (s .message) r) (withMessage s (stagedOf (s .message) r)) (faultyOf s (faultIn (s .message) r))
 
 -- "(between terminals also the words named below)": a second command word, "Then a valid status from that address .., then the data words.
 -- Any other record there is a fault."
@@ -116,7 +139,8 @@ nextWord First s r =
     cond (isSecond (s .setup .own) (s .message) r)
     (withMessage s (movedOf (s .message) (Pledged (addressOf (r .word))) r))
     (nextData s r)
-nextWord (Pledged address) s r = cond (isStatusFrom address r) (withMessage s (movedOf (s .message) Data r)) (faultyOf s)
+nextWord (Pledged address) s r =
+    cond (isStatusFrom address r) (withMessage s (movedOf (s .message) Data r)) (faultyOf s (faultIn (s .message) r))
 
 unfoldable pub rule5 : State → WordRecord → State
 rule5 s r = nextWord (s .message .phase) s r

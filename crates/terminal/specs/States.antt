@@ -1,7 +1,7 @@
 -- Document 01, "The terminal": the state, and what fresh means. A set-up, what the host sets, what is held, a message and a state are written out
 -- whole here and nowhere else; all others say what they change of one. Assumes nothing.
 use Prim.Native.Nat.{ℕ, _+_}
-use mathlib.Core.Bool.{Bool, false}
+use mathlib.Core.Bool.{Bool, false, cond}
 use mathlib.Core.List.{List, [], _∷_}
 use lib.ListN.{set, replicate}
 use Rattle.words.specs.Words.{statusOf}
@@ -11,6 +11,8 @@ use Rattle.words.specs.declared.times.Moment.{Moment}
 use Rattle.terminal.specs.declared.states.Own.{Own}
 use Rattle.terminal.specs.declared.states.Setup.{Setup}
 use Rattle.terminal.specs.declared.states.Host.{Host}
+use Rattle.terminal.specs.declared.states.SpacingFault.{SpacingFault}
+use Rattle.terminal.specs.declared.states.SpacingFault.the-variants.{None, Overlapping, Separated}
 use Rattle.terminal.specs.declared.states.Held.{Held}
 use Rattle.terminal.specs.declared.states.Phase.{Phase}
 use Rattle.terminal.specs.declared.states.Phase.the-variants.{Idle}
@@ -56,33 +58,49 @@ withVectorWord h word = hostOf (h .service) (h .busy) (h .subsystem) (h .defect)
 abbrev pub withBitWord : Host → ℕ → Host
 withBitWord h word = hostOf (h .service) (h .busy) (h .subsystem) (h .defect) (h .vectorword) word
 
--- ---- what is held: stored status, last command, sync word, self-test request, terminal flag inhibited, transmitters shut down
+-- ---- what is held: stored status, last command, sync word, self-test request, terminal flag inhibited, transmitters shut down, and whether the last
+-- spacing fault was overlapping or separated (02 i)
 
-abbrev pub heldOf : StatusWord → CommandWord → ℕ → Bool → Bool → List Bool → Held
-heldOf status command syncword selftest inhibit shut =
-    record { status = status; command = command; syncword = syncword; selftest = selftest; inhibit = inhibit; shut = shut }
+abbrev pub heldOf : StatusWord → CommandWord → ℕ → Bool → Bool → List Bool → Bool → Bool → Held
+heldOf status command syncword selftest inhibit shut overlapping separated = record {
+  status = status;
+  command = command;
+  syncword = syncword;
+  selftest = selftest;
+  inhibit = inhibit;
+  shut = shut;
+  overlapping = overlapping;
+  separated = separated;
+}
 
--- "Fresh: transmitters on, nothing inhibited, status the own address, last command 0, sync word 0, no self-test request, .."
+-- "Fresh: transmitters on, nothing inhibited, status the own address, last command 0, sync word 0, no self-test request, .."; "(fresh: none)" (02 i)
 abbrev pub freshHeld : Own → Held
-freshHeld own = heldOf (record { 0 = statusOf (own .address) 0 }) (record { 0 = 0 }) 0 false false (false ∷ false ∷ [])
+freshHeld own = heldOf (record { 0 = statusOf (own .address) 0 }) (record { 0 = 0 }) 0 false false (false ∷ false ∷ []) false false
 
 abbrev pub withStatus : Held → ℕ → Held
-withStatus h status = heldOf (record { 0 = status }) (h .command) (h .syncword) (h .selftest) (h .inhibit) (h .shut)
+withStatus h status = heldOf (record { 0 = status }) (h .command) (h .syncword) (h .selftest) (h .inhibit) (h .shut) (h .overlapping) (h .separated)
 
 abbrev pub withCommand : Held → ℕ → Held
-withCommand h word = heldOf (h .status) (record { 0 = word }) (h .syncword) (h .selftest) (h .inhibit) (h .shut)
+withCommand h word = heldOf (h .status) (record { 0 = word }) (h .syncword) (h .selftest) (h .inhibit) (h .shut) (h .overlapping) (h .separated)
 
 abbrev pub withSyncWord : Held → ℕ → Held
-withSyncWord h word = heldOf (h .status) (h .command) word (h .selftest) (h .inhibit) (h .shut)
+withSyncWord h word = heldOf (h .status) (h .command) word (h .selftest) (h .inhibit) (h .shut) (h .overlapping) (h .separated)
 
 abbrev pub withSelftest : Held → Bool → Held
-withSelftest h on = heldOf (h .status) (h .command) (h .syncword) on (h .inhibit) (h .shut)
+withSelftest h on = heldOf (h .status) (h .command) (h .syncword) on (h .inhibit) (h .shut) (h .overlapping) (h .separated)
 
 abbrev pub withInhibit : Held → Bool → Held
-withInhibit h on = heldOf (h .status) (h .command) (h .syncword) (h .selftest) on (h .shut)
+withInhibit h on = heldOf (h .status) (h .command) (h .syncword) (h .selftest) on (h .shut) (h .overlapping) (h .separated)
 
 abbrev pub withShut : Held → ℕ → Bool → Held
-withShut h bus on = heldOf (h .status) (h .command) (h .syncword) (h .selftest) (h .inhibit) (set (h .shut) bus on)
+withShut h bus on = heldOf (h .status) (h .command) (h .syncword) (h .selftest) (h .inhibit) (set (h .shut) bus on) (h .overlapping) (h .separated)
+
+abbrev pub withSpacing : Held → Bool → Bool → Held
+withSpacing h overlapping separated = heldOf (h .status) (h .command) (h .syncword) (h .selftest) (h .inhibit) (h .shut) overlapping separated
+
+-- "the kind of its last spacing fault .. for the host to read" (02 i)
+unfoldable pub spacingIn : Held → SpacingFault
+spacingIn h = cond (h .overlapping) Overlapping (cond (h .separated) Separated None)
 
 -- ---- the message under way: what it awaits, its bus, its command, the time of its last word, its data words so far and their number
 

@@ -2,24 +2,22 @@
 -- of document 01, and nobody need believe anything of it: no public promise names it, and proofs/ (Works, Meanings, Awaited, Happenings) shows
 -- that it comes to what Rules.antt and Events.antt say. Assumes nothing.
 use Prim.Native.Nat.{ℕ, _-_}
-use mathlib.Core.Bool.{Bool, true, false, not, cond, _&&_}
+use mathlib.Core.Bool.{Bool, true, false, cond, _&&_}
 use lib.Dec.{leb}
 use lib.ListN.{getD, replicate}
-use Rattle.words.specs.Words.{addressOf, awaitedOf, isSpaced}
+use Rattle.words.specs.Words.{addressOf, awaitedOf}
 use Rattle.records.specs.declared.forms.WordRecord.{WordRecord}
 use Rattle.terminal.specs.States.{setupOf, freshOf, withHeld, withMessage, withSending}
 use Rattle.terminal.specs.Commands.{isOwn}
 use Rattle.terminal.specs.Messages.{isOn, awaitsData, isSending, isNextData, isSecond, isStatusFrom}
 use Rattle.terminal.specs.Settling.{otherBus}
-use Rattle.terminal.specs.Rules.{faultyOf, rule4, stagedOf, movedOf}
+use Rattle.terminal.specs.Rules.{faultyOf, rule4, stagedOf, movedOf, faultIn}
 use Rattle.terminal.specs.declared.states.Own.{Own}
 use Rattle.terminal.specs.declared.states.Phase.{Phase}
 use Rattle.terminal.specs.declared.states.Phase.the-variants.{Idle, First, Pledged, Data}
 use Rattle.terminal.specs.declared.states.Message.{Message}
 use Rattle.terminal.specs.declared.states.Work.{Work}
 use Rattle.terminal.specs.declared.states.Terminal.{Terminal as State}
-use Rattle.terminal.specs.declared.rules.Fault.{Fault}
-use Rattle.terminal.specs.declared.rules.Fault.the-variants.{Spacing, Other}
 use Rattle.terminal.specs.declared.rules.Meaning.{Meaning}
 use Rattle.terminal.specs.declared.rules.Meaning.the-variants.{Ignored, Begins, SecondCommand, Status, DataWord, Faulty, Nothing}
 use Rattle.terminal.specs.declared.events.Event.{Event}
@@ -55,10 +53,6 @@ toldOf (Word r) = record { heard = r; mark = false }
 
 -- ---- what a record is
 
--- The fault of a record that is no data word of the message: one that is badly spaced while a data word is awaited, or any other.
-unfoldable pub faultIn : Message → WordRecord → Fault
-faultIn m r = cond (awaitsData m && not (isSpaced (m .last .0) (r .time .0))) Spacing Other
-
 unfoldable pub dataMeaning : Message → WordRecord → Meaning
 dataMeaning m r = cond (awaitsData m && isNextData m r) DataWord (Faulty (faultIn m r))
 
@@ -66,7 +60,7 @@ unfoldable pub wordMeaning : Phase → Own → Message → WordRecord → Meanin
 wordMeaning Idle own m r = Nothing
 wordMeaning Data own m r = dataMeaning m r
 wordMeaning First own m r = cond (isSecond own m r) SecondCommand (dataMeaning m r)
-wordMeaning (Pledged address) own m r = cond (isStatusFrom address r) Status (Faulty Other)
+wordMeaning (Pledged address) own m r = cond (isStatusFrom address r) Status (Faulty (faultIn m r))
 
 unfoldable pub meaningOf : Own → Work → WordRecord → Meaning
 meaningOf own w r =
@@ -97,5 +91,5 @@ changedOf own w r Begins = workOf (rule4 (bareOf own w) r)
 changedOf own w r SecondCommand = messageIn w (movedOf (w .message) (Pledged (addressOf (r .word))) r)
 changedOf own w r Status = messageIn w (movedOf (w .message) Data r)
 changedOf own w r DataWord = messageIn w (stagedOf (w .message) r)
-changedOf own w r (Faulty fault) = workOf (faultyOf (bareOf own w))
+changedOf own w r (Faulty fault) = workOf (faultyOf (bareOf own w) fault)
 changedOf own w r Nothing = w

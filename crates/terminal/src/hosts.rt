@@ -1,11 +1,12 @@
 // Host calls, host reads and the next moment (01 The terminal). Meaning: specs/Events.antt, specs/States.antt. Refusals: none.
 ghost use mathlib.Core.Path.{_≡_};
 ghost use Rattle.terminal.specs.Settling.{isShut};
-ghost use Rattle.terminal.specs.States.{withService, withBusy, withSubsystem, withTerminalFault, withVectorWord, withBitWord, withHost};
+ghost use Rattle.terminal.specs.States.{withService, withBusy, withSubsystem, withTerminalFault, withVectorWord, withBitWord, withHost, spacingIn};
 ghost use Rattle.terminal.specs.Events.{selftestCleared, restartedOf, nextMomentOf};
 use crate::states::Held;
 use crate::states::Message;
 use crate::states::Sending;
+use crate::states::SpacingFault;
 use crate::states::Terminal;
 use crate::tables::is_shut;
 use words::CommandWord;
@@ -155,6 +156,20 @@ impl Terminal {
     {
         let shut = self.held.shut;
         is_shut(shut, bus)
+    }
+
+    // Gives the kind of the last spacing fault, or none.
+    // Tables: none. Refusals: none.
+    pub fn last_spacing_fault(self) -> SpacingFault
+        ensures kind { λ r. ⌜ r ≡ spacingIn (self .held) ⌝ }
+    {
+        if self.held.overlapping {
+            return SpacingFault::Overlapping;
+        }
+        if self.held.separated {
+            return SpacingFault::Separated;
+        }
+        SpacingFault::None
     }
 
     // Gives the next moment at which time alone matters. It may differ after every event that is not refused and after a restart.

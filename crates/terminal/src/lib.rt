@@ -24,4 +24,5 @@ pub use states::Own;
 pub use states::Phase;
 pub use states::Sending;
 pub use states::Setup;
+pub use states::SpacingFault;
 pub use states::Terminal;

@@ -3,11 +3,11 @@
 // them. Refusals: none.
 ghost use mathlib.Core.Path.{_≡_};
 ghost use lib.ListN.{length};
-ghost use Rattle.terminal.specs.Rules.{rule1Answer, rule1Receive, markedOf, faultyOf, rule2, firstPhase, notedStatus, notedCommand, begunOf, rule4};
+ghost use Rattle.terminal.specs.Rules.{rule1Answer, rule1Receive, markedOf, keptBy, faultyOf, rule2, faultBy, faultIn, firstPhase, notedStatus, notedCommand, begunOf, rule4};
 ghost use Rattle.terminal.specs.Events.{passedOf};
 ghost use Prim.Native.Nat.{_<_};
 ghost use Rattle.terminal.specs.declared.rules.Meaning.the-variants.{DataWord};
-ghost use Rattle.terminal.specs.Works.{workOf, bareOf, faultIn, dataMeaning, wordMeaning, meaningOf, isBeginning, cutBy, changedOf};
+ghost use Rattle.terminal.specs.Works.{workOf, bareOf, dataMeaning, wordMeaning, meaningOf, isBeginning, cutBy, changedOf};
 use crate::answers::Answer;
 use crate::commands::TRANSMIT_LAST_COMMAND;
 use crate::commands::is_exempt;
@@ -19,28 +19,20 @@ use crate::states::Message;
 use crate::states::Own;
 use crate::states::Phase;
 use crate::states::Sending;
+use crate::states::SpacingFault;
 use crate::states::Terminal;
 use crate::states::Work;
 use records::WordRecord;
 use words::CommandWord;
 use words::Flag;
 use words::Moment;
+use words::Spacing;
 use words::StatusWord;
 
 // What rules 1 and 2 give: the work after them, and the answer that the event carries.
 pub struct Passed {
     pub work: Work,
     pub answer: Answer,
-}
-
-// Why a message is faulty.
-pub enum Fault {
-    // rule 2: "t more than 205 past its last word"
-    Late,
-    // rule 5: not "195 to 205 after the one before", while a data word is awaited
-    Spacing,
-    // rule 5: a record that is not its next word for anything else
-    Other,
 }
 
 // What a record is to the terminal, in the order of rules 3 to 6.
@@ -55,7 +47,7 @@ pub enum Meaning {
     // the next data word
     DataWord,
     // not the next word of the message under way
-    Faulty(Fault),
+    Faulty(SpacingFault),
     // any other record, and a time mark
     Nothing,
 }
@@ -91,15 +83,27 @@ impl Held {
         let error = self.status.with(Flag::MessageError);
         self.with_status(error)
     }
+
+    // "The terminal keeps the kind of its last spacing fault": a fault of another cause leaves it.
+    fn kept(self, fault: SpacingFault) -> Held
+        ensures held { λ r. ⌜ r ≡ keptBy self fault ⌝ }
+    {
+        match fault {
+            SpacingFault::None => self,
+            SpacingFault::Overlapping => self.with_spacing(true, false),
+            SpacingFault::Separated => self.with_spacing(false, true),
+        }
+    }
 }
 
 impl Work {
     // "A faulty message ends at once": whatever its fault, no answer, no data stored.
-    fn faulty(self, own: Own, _fault: Fault) -> Work
-        ensures work { λ r. ⌜ r ≡ workOf (faultyOf (bareOf own self)) ⌝ }
+    fn faulty(self, own: Own, fault: SpacingFault) -> Work
+        ensures work { λ r. ⌜ r ≡ workOf (faultyOf (bareOf own self) fault) ⌝ }
     {
         let command = self.message.command;
-        let held = self.held.marked(own, command);
+        let marked = self.held.marked(own, command);
+        let held = marked.kept(fault);
         let message = Message::none();
         let sending = self.sending;
         Work {
@@ -113,7 +117,7 @@ impl Work {
         ensures work { λ r. ⌜ r ≡ workOf (rule2 (bareOf own self) (time .0)) ⌝ }
     {
         if self.message.is_late(time) {
-            return self.faulty(own, Fault::Late);
+            return self.faulty(own, SpacingFault::Separated);
         }
         self
     }
@@ -225,15 +229,29 @@ impl Work {
 
 // ---- "5. Any other record on the bus of a message under way must be its next word .. Otherwise the message is faulty, also when all its words had
 // come."
+impl SpacingFault {
+    // Gives the fault that a spacing is.
+    fn by(spacing: Spacing) -> SpacingFault
+        ensures fault { λ r. ⌜ r ≡ faultBy spacing ⌝ }
+    {
+        match spacing {
+            Spacing::Overlapping(_) => SpacingFault::Overlapping,
+            Spacing::BackToBack(_) => SpacingFault::None,
+            Spacing::Separated(_) => SpacingFault::Separated,
+        }
+    }
+}
+
 impl Message {
-    // Gives the fault of a record that is not the next data word: badly spaced while one is awaited, or any other.
-    fn fault(self, heard: WordRecord) -> Fault
+    // Gives the spacing fault of a record that is not the next word: spacing is asked while a data word is awaited, whatever else is wrong.
+    fn fault(self, heard: WordRecord) -> SpacingFault
         ensures fault { λ r. ⌜ r ≡ faultIn self heard ⌝ }
     {
-        if self.awaits_data() & !self.is_spaced(heard.time) {
-            return Fault::Spacing;
+        if self.awaits_data() {
+            let last = self.last;
+            return SpacingFault::by(words::spacing_between(last, heard.time));
         }
-        Fault::Other
+        SpacingFault::None
     }
 
     // "its next word: valid, data sync, 195 to 205 after the one before"
@@ -266,7 +284,7 @@ impl Message {
                 if is_status_from(address, heard) {
                     Meaning::Status
                 } else {
-                    Meaning::Faulty(Fault::Other)
+                    Meaning::Faulty(self.fault(heard))
                 }
             }
         }

@@ -4,7 +4,7 @@ ghost use mathlib.Core.Path.{_≡_};
 ghost use mathlib.Core.List.{[], _∷_};
 ghost use Prim.Native.Nat.{_<_};
 ghost use Rattle.words.specs.Words.{dueDistance, spacingLeast, spacingMost};
-ghost use Rattle.terminal.specs.States.{ownOf, setupOf, freshHost, freshHeld, withStatus, withCommand, withSyncWord, withSelftest, withInhibit, withShut, messageOf, noMessage, atPhase, withWord, noSending, freshOf};
+ghost use Rattle.terminal.specs.States.{ownOf, setupOf, freshHost, freshHeld, withStatus, withCommand, withSyncWord, withSelftest, withInhibit, withShut, withSpacing, messageOf, noMessage, atPhase, withWord, noSending, freshOf};
 ghost use Rattle.terminal.specs.Works.{workOf, messageIn, withWork};
 use crate::tables::BUSES;
 use crate::tables::with_word;
@@ -36,8 +36,18 @@ pub struct Host {
     pub defect: bool,
 }
 
-// What a restart makes fresh: stored status, last command, sync word, self-test request, terminal flag inhibited, and for each bus
-// whether its transmitter is shut down.
+// How a word was badly spaced (02 i). Of the last spacing fault, none where there was none since the terminal was fresh; of a fault, none where its
+// cause is another.
+pub enum SpacingFault {
+    None,
+    // "overlapping (below 195)"
+    Overlapping,
+    // "separated (above 205)"
+    Separated,
+}
+
+// What a restart makes fresh: stored status, last command, sync word, self-test request, terminal flag inhibited, for each bus whether its transmitter
+// is shut down, and of the last spacing fault whether it was overlapping or separated: two flags, since the enum would leave a hole (DECISIONS 75).
 pub struct Held {
     pub status: StatusWord,
     pub command: CommandWord,
@@ -45,6 +55,8 @@ pub struct Held {
     pub selftest: bool,
     pub inhibit: bool,
     pub shut: [bool; 2],
+    pub overlapping: bool,
+    pub separated: bool,
 }
 
 // What the message under way awaits.
@@ -125,7 +137,7 @@ impl Host {
 }
 
 impl Held {
-    // "Fresh: transmitters on, nothing inhibited, status the own address, last command 0, sync word 0, no self-test request"
+    // "Fresh: transmitters on, nothing inhibited, status the own address, last command 0, sync word 0, no self-test request", no spacing fault
     pub(crate) fn fresh(own: Own) -> Held
         ensures held { λ r. ⌜ r ≡ freshHeld own ⌝ }
     {
@@ -136,6 +148,8 @@ impl Held {
             selftest: false,
             inhibit: false,
             shut: [false; 2],
+            overlapping: false,
+            separated: false,
         }
     }
 
@@ -194,6 +208,25 @@ impl Held {
             next.shut[at] = on;
         }
         next
+    }
+
+    // With another last spacing fault.
+    pub(crate) fn with_spacing(self, overlapping: bool, separated: bool) -> Held
+        ensures held { λ r. ⌜ r ≡ withSpacing self overlapping separated ⌝ }
+    {
+        let status = self.status;
+        let command = self.command;
+        let shut = self.shut;
+        Held {
+            status,
+            command,
+            syncword: self.syncword,
+            selftest: self.selftest,
+            inhibit: self.inhibit,
+            shut,
+            overlapping,
+            separated,
+        }
     }
 }
 

@@ -1,4 +1,4 @@
--- The mark, and no message. Assumes nothing.
+-- The mark, the kind, and no message. Assumes nothing.
 use Rattle.terminal.specs.Rules.{faultyOf}
 use borrow.Author.Needs.{needs}
 use Rattle.terminal.proofs.states.Work.faulty.Statement.{statement}
@@ -7,12 +7,15 @@ use Rattle.terminal.proofs.states.Work.faulty.Tie as tie
 marked-requires : tie.Need-marked-requires
 marked-requires c κs = search needs
 
+kept-requires : tie.Need-kept-requires
+kept-requires c κs = search needs
+
 none-requires : tie.Need-none-requires
 none-requires c κs = search needs
 
 returns : tie.Need-returns
 unfolding faultyOf
-returns c = rw (c .before .none .ensures, c .before .before .marked .ensures)
+returns c = rw (c .before .none .ensures, c .before .before .kept .ensures, c .before .before .before .marked .ensures)
 
 pub faulty-spec : {M : Type 1} → statement M
-faulty-spec = tie.close (tie.spec marked-requires none-requires returns)
+faulty-spec = tie.close (tie.spec marked-requires kept-requires none-requires returns)
