@@ -1,7 +1,7 @@
 -- `marksFault` says it of an event exactly where its rules come to a fault. Assumes nothing.
 use mathlib.Core.Path.{_≡_, refl, sym, ap, _∙_}
 use Prim.Native.Nat.{ℕ}
-use mathlib.Core.Bool.{Bool, true, false, not, _&&_, _||_, or-true}
+use mathlib.Core.Bool.{Bool, true, false, not, cond, _&&_, _||_, or-true}
 use mathlib.Core.List.{List}
 use lib.Dec.{ltb}
 use borrow.Author.Tests.{ltb-true, lt-leb, not-true}
@@ -11,25 +11,49 @@ use Rattle.records.specs.declared.forms.WordRecord.{WordRecord}
 use Rattle.terminal.specs.States.{atTime}
 use Rattle.terminal.specs.Commands.{isOwn, isExempt}
 use Rattle.terminal.specs.Messages.{isUnderWay, isOn, isCounting, awaitsData, isWhole, isDue, isLate, isNextData, isSecond}
-use Rattle.terminal.specs.Rules.{settledOf, rule1, faultyOf, rule2, rule3, firstPhase, begunOf, rule4, stagedOf, movedOf, nextData, nextWord, rule5, rules3to6}
+use Rattle.terminal.specs.Rules.{settledOf, rule1, faultyOf, rule2, rule3, firstPhase, begunOf, rule4, stagedOf, movedOf, faultIn, nextData, nextWord, rule5, rules3to6}
 use Rattle.terminal.specs.Events.{timeOf, passedOf, takenOf}
+use Rattle.terminal.specs.declared.states.SpacingFault.{SpacingFault}
+use Rattle.terminal.specs.declared.states.SpacingFault.the-variants.{Separated}
 use Rattle.terminal.specs.declared.states.Phase.{Phase}
 use Rattle.terminal.specs.declared.states.Phase.the-variants.{Idle, First, Pledged, Data}
 use Rattle.terminal.specs.declared.states.Message.{Message}
 use Rattle.terminal.specs.declared.states.Terminal.{Terminal as State}
 use Rattle.terminal.specs.declared.events.Event.{Event}
 use Rattle.terminal.specs.declared.events.Event.the-variants.{Mark, Word}
-use Rattle.history.specs.States.{isNextWord, isBadWord, hasBadWord, marksFault, MadeFaulty, ComesToFault, by-time, by-word}
+use Rattle.history.specs.States.{isNextWord, isBadWord, Fault, noFault, aFault, isFault, wordFault, faultOf, marksFault, MadeFaulty, ComesToFault, by-time, by-word}
 use Rattle.history.specs.Demands.{FaultExactly}
 use Rattle.history.proofs.Tests.{true≢, false≢, cond-cases, and-left, and-right, or-false, or-cases}
 use Rattle.history.proofs.Phases.{counting-under-way, late-under-way}
 use Rattle.history.proofs.Passing.{still, passed-under-way}
 use Rattle.history.proofs.Begun.{first-counts}
 
+-- ---- an event shows a fault by its time or by its word
+
+abbrev pub hasBadWord : State → Event → Bool
+hasBadWord s (Mark t) = false
+hasBadWord s (Word r) = isBadWord s r
+
+one-if : (b : Bool) (kind : SpacingFault) → isFault (cond b (aFault kind) noFault) ≡ b
+one-if true kind = refl
+one-if false kind = refl
+
+by-word-if : (s : State) (e : Event) → isFault (wordFault s e) ≡ hasBadWord s e
+by-word-if s (Mark t) = refl
+by-word-if s (Word r) = one-if (isBadWord s r) (faultIn (s .message) r)
+
+either-if : (late : Bool) (f : Fault) (bad : Bool) → isFault f ≡ bad → isFault (cond late (aFault Separated) f) ≡ (late || bad)
+either-if true f bad h = refl
+either-if false f bad h = h
+
+pub fault-either : (s : State) (e : Event) (transmit : List ℕ)
+    → isFault (faultOf s e transmit) ≡ (isLate (s .message) (timeOf e) || hasBadWord (passedOf s (timeOf e) transmit) e)
+fault-either s e transmit = either-if (isLate (s .message) (timeOf e)) _ _ (by-word-if (passedOf s (timeOf e) transmit) e)
+
 -- ---- a marked fault comes of the rules
 
 -- a message that is late is not due
-late-not-due : (m : Message) (t : ℕ) → isLate m t ≡ true → isDue m t ≡ false
+pub late-not-due : (m : Message) (t : ℕ) → isLate m t ≡ true → isDue m t ≡ false
 unfolding isLate isDue awaitsData isWhole
 late-not-due m t late =
     let counts : isCounting (m .phase) ≡ true = search (and-left, late) in
@@ -42,12 +66,12 @@ unfolding rule1
 not-settled s t transmit not-due = rw not-due
 
 -- by its time
-pub late-faulty : (s : State) (t : ℕ) (transmit : List ℕ) → isLate (s .message) t ≡ true → (rule1 s t transmit ≡ s) × (rule2 s t ≡ faultyOf s)
+pub late-faulty : (s : State) (t : ℕ) (transmit : List ℕ) → isLate (s .message) t ≡ true → (rule1 s t transmit ≡ s) × (rule2 s t ≡ faultyOf s Separated)
 unfolding rule2
 late-faulty s t transmit late = (not-settled s t transmit (late-not-due (s .message) t late), rw late)
 
 -- by its word
-bad-next : (p : Phase) (s : State) (r : WordRecord) → isNextWord p s r ≡ false → nextWord p s r ≡ faultyOf s
+bad-next : (p : Phase) (s : State) (r : WordRecord) → isNextWord p s r ≡ false → nextWord p s r ≡ faultyOf s (faultIn (s .message) r)
 unfolding nextWord nextData
 bad-next Idle s r bad = true≢ bad
 bad-next Data s r bad = rw bad
@@ -56,7 +80,7 @@ bad-next First s r bad =
     (λ no-second no-data. rw (no-second, no-data))
 bad-next (Pledged address) s r bad = rw bad
 
-pub bad-faulty : (s : State) (r : WordRecord) → isBadWord s r ≡ true → rules3to6 s r ≡ faultyOf s
+pub bad-faulty : (s : State) (r : WordRecord) → isBadWord s r ≡ true → rules3to6 s r ≡ faultyOf s (faultIn (s .message) r)
 unfolding rules3to6 rule5
 bad-faulty s r bad =
     let quiet : rule3 s r ≡ false = not-true (rule3 s r) (search (and-left, and-right, bad)) in
@@ -81,6 +105,7 @@ module _ (s : State) (transmit : List ℕ) (plain : isExempt (s .setup .own) (s 
       by-word (record {
         under-way = on;
         marked = rw (passed-still s (r .time .0) transmit on) plain;
+        kind = faultIn (x .message) r;
         faulty = bad-faulty x r bad;
       })
 
@@ -88,23 +113,23 @@ module _ (s : State) (transmit : List ℕ) (plain : isExempt (s .setup .own) (s 
   time-comes e late =
       let faulty = late-faulty s (timeOf e) transmit late in
       by-time
-      (rw (faulty .0) (record { under-way = late-under-way (s .message) (timeOf e) late; marked = plain; faulty = faulty .1 }))
+      (rw (faulty .0) (record { under-way = late-under-way (s .message) (timeOf e) late; marked = plain; kind = Separated; faulty = faulty .1 }))
 
 marked-comes : (s : State) (e : Event) (transmit : List ℕ) → marksFault s e transmit ≡ true → ComesToFault s e transmit
 marked-comes s e transmit marks =
     let exempt : Bool = isExempt (s .setup .own) (s .message .command .0) in
     let late : Bool = isLate (s .message) (timeOf e) in
     let bad : Bool = hasBadWord (passedOf s (timeOf e) transmit) e in
-    let parts = and-both (not exempt) (late || bad) marks in
+    let parts = and-both (not exempt) (late || bad) (ap (λ (b : Bool). not exempt && b) (sym (fault-either s e transmit)) ∙ marks) in
     let plain : exempt ≡ false = not-true exempt (parts .0) in
     or-cases late bad (parts .1) (time-comes s transmit plain e) (word-comes s transmit plain e)
 
 -- ---- and a fault that comes of the rules is marked
 
 -- what still has a message under way is none
-no-fault : {X : Type 0} (s next : State) → isUnderWay (next .message .phase) ≡ true → next ≡ faultyOf s → X
+no-fault : {X : Type 0} (s next : State) (kind : SpacingFault) → isUnderWay (next .message .phase) ≡ true → next ≡ faultyOf s kind → X
 unfolding faultyOf
-no-fault s next on same = true≢ (sym on ∙ ap (λ (x : State). isUnderWay (x .message .phase)) same)
+no-fault s next kind on same = true≢ (sym on ∙ ap (λ (x : State). isUnderWay (x .message .phase)) same)
 
 -- by its time
 by-time-late : (s : State) (t : ℕ) (transmit : List ℕ) → MadeFaulty (rule1 s t transmit) (rule2 (rule1 s t transmit) t)
@@ -117,7 +142,7 @@ by-time-late s t transmit = go (isDue (s .message) t) refl
 
     late : (b : Bool) → isLate (s .message) t ≡ b → MadeFaulty s (rule2 s t) → Fact
     late true is made = (made .marked, is)
-    late false is made = no-fault s s (made .under-way) (rw is at (made .faulty))
+    late false is made = no-fault s s (made .kind) (made .under-way) (rw is at (made .faulty))
 
     go : (b : Bool) → isDue (s .message) t ≡ b → MadeFaulty (rule1 s t transmit) (rule2 (rule1 s t transmit) t) → Fact
     go true due made = false≢ (rw due at (made .under-way))
@@ -138,34 +163,34 @@ begun-under-way : (r : WordRecord) → isUnderWay (begunOf r .phase) ≡ true
 unfolding begunOf
 begun-under-way r = counting-under-way (firstPhase (r .word)) (first-counts (r .word))
 
-by-word-bad : (s : State) (r : WordRecord) → isUnderWay (s .message .phase) ≡ true → rules3to6 s r ≡ faultyOf s → isBadWord s r ≡ true
+by-word-bad : (s : State) (r : WordRecord) (kind : SpacingFault) → isUnderWay (s .message .phase) ≡ true → rules3to6 s r ≡ faultyOf s kind → isBadWord s r ≡ true
 unfolding rules3to6 rule4 rule5 isOn
-by-word-bad s r on same = go (rule3 s r) refl (isOwn (s .setup .own) r) refl (isOn (s .message) (r .bus)) refl (isNextWord (s .message .phase) s r) refl
+by-word-bad s r kind on same = go (rule3 s r) refl (isOwn (s .setup .own) r) refl (isOn (s .message) (r .bus)) refl (isNextWord (s .message .phase) s r) refl
   where
     go : (a : Bool) → rule3 s r ≡ a
         → (b : Bool) → isOwn (s .setup .own) r ≡ b
         → (c : Bool) → isOn (s .message) (r .bus) ≡ c
         → (d : Bool) → isNextWord (s .message .phase) s r ≡ d
         → isBadWord s r ≡ true
-    go true sending b own c here d next = no-fault s s on (rw sending at same)
-    go false quiet true own c here d next = no-fault s (rule4 s r) (begun-under-way r) (rw (quiet, own) at same)
-    go false quiet false foreign false elsewhere d next = no-fault s s on (rw (quiet, foreign, elsewhere) at same)
+    go true sending b own c here d next = no-fault s s kind on (rw sending at same)
+    go false quiet true own c here d next = no-fault s (rule4 s r) kind (begun-under-way r) (rw (quiet, own) at same)
+    go false quiet false foreign false elsewhere d next = no-fault s s kind on (rw (quiet, foreign, elsewhere) at same)
     go false quiet false foreign true here true next =
-        no-fault s (nextWord (s .message .phase) s r) (good-next (s .message .phase) s r on next) (rw (quiet, foreign, here) at same)
+        no-fault s (nextWord (s .message .phase) s r) kind (good-next (s .message .phase) s r on next) (rw (quiet, foreign, here) at same)
     go false quiet false foreign true here false bad = rw (quiet, foreign, here, bad)
 
 by-event-bad : (s : State) (e : Event) (transmit : List ℕ) → MadeFaulty (passedOf s (timeOf e) transmit) (takenOf (passedOf s (timeOf e) transmit) e)
     → hasBadWord (passedOf s (timeOf e) transmit) e ≡ true
-by-event-bad s (Mark t) transmit made = no-fault (passedOf s (t .0) transmit) (passedOf s (t .0) transmit) (made .under-way) (made .faulty)
-by-event-bad s (Word r) transmit made = by-word-bad (passedOf s (r .time .0) transmit) r (made .under-way) (made .faulty)
+by-event-bad s (Mark t) transmit made = no-fault (passedOf s (t .0) transmit) (passedOf s (t .0) transmit) (made .kind) (made .under-way) (made .faulty)
+by-event-bad s (Word r) transmit made = by-word-bad (passedOf s (r .time .0) transmit) r (made .kind) (made .under-way) (made .faulty)
 
 comes-marked : (s : State) (e : Event) (transmit : List ℕ) → ComesToFault s e transmit → marksFault s e transmit ≡ true
 comes-marked s e transmit (by-time made) =
     let late = by-time-late s (timeOf e) transmit made in
-    rw (late .0, late .1)
+    rw (late .0, fault-either s e transmit, late .1)
 comes-marked s e transmit (by-word made) =
     let plain : isExempt (s .setup .own) (s .message .command .0) ≡ false = rw (passed-still s (timeOf e) transmit (made .under-way)) at (made .marked) in
-    rw (plain, by-event-bad s e transmit made) (or-true (isLate (s .message) (timeOf e)))
+    rw (plain, fault-either s e transmit, by-event-bad s e transmit made) (or-true (isLate (s .message) (timeOf e)))
 
 pub fault-exactly : FaultExactly
 fault-exactly s e transmit = (marked-comes s e transmit, comes-marked s e transmit)

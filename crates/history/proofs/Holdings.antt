@@ -1,5 +1,5 @@
 -- What is held stays as `Holding` says. Assumes nothing.
-use mathlib.Core.Path.{_≡_, _∙_}
+use mathlib.Core.Path.{_≡_, refl, _∙_}
 use Prim.Native.Nat.{ℕ, _≤_}
 use mathlib.Core.Bool.{Bool, true, cond, _||_, or-true}
 use native.Mathlib.Omega.{arith}
@@ -11,8 +11,10 @@ use Rattle.words.proofs.Inverse.{status-fields-built}
 use Rattle.terminal.specs.States.{freshHeld, withStatus}
 use Rattle.terminal.specs.Settling.{settledStatus}
 use Rattle.terminal.specs.Effects.{effectOf, heldAfter}
-use Rattle.terminal.specs.Rules.{notedStatus, notedCommand}
+use Rattle.terminal.specs.Rules.{keptBy, notedStatus, notedCommand}
 use Rattle.terminal.specs.declared.states.Own.{Own}
+use Rattle.terminal.specs.declared.states.SpacingFault.{SpacingFault}
+use Rattle.terminal.specs.declared.states.SpacingFault.the-variants.{None, Overlapping, Separated}
 use Rattle.terminal.specs.declared.states.Held.{Held}
 use Rattle.terminal.specs.declared.states.Terminal.{Terminal as State}
 use Rattle.history.specs.States.{isTo, Holding}
@@ -31,7 +33,13 @@ module _ (own : Own) (h : Held) where
   -- with a flag in the status
   pub status-flag : (flag : Flag) (n : ℕ) → Holding own (withStatus h n) → Holding own (withStatus h (withFlag flag n))
   status-flag flag n k =
-      record { status = address-kept flag n ∙ k .status; spare = spare-kept flag n ∙ k .spare; command = k .command; shut = k .shut }
+      record { status = address-kept flag n ∙ k .status; spare = spare-kept flag n ∙ k .spare; command = k .command; shut = k .shut; spacing = k .spacing }
+
+-- with the kind of a spacing fault
+pub held-kept : (own : Own) (h : Held) (kind : SpacingFault) → Holding own h → Holding own (keptBy h kind)
+held-kept own h None k = k
+held-kept own h Overlapping k = record { status = k .status; spare = k .spare; command = k .command; shut = k .shut; spacing = refl }
+held-kept own h Separated k = record { status = k .status; spare = k .spare; command = k .command; shut = k .shut; spacing = refl }
 
 module _ (own : Own) (small : own .address ≤ 30) where
   -- fresh

@@ -1,6 +1,7 @@
 pub mod Tests
 pub mod Steps
 pub mod Phases
+pub mod Keeping
 pub mod Passing
 pub mod Moving
 pub mod Marks
@@ -20,6 +21,8 @@ pub mod Holdings
 pub mod Waitings
 pub mod Reached
 pub mod Silenced
+pub mod Polling
+pub mod Spacings
 pub mod Pasts
 pub mod Replacing
 pub mod Witnessed

@@ -6,6 +6,7 @@ use Rattle.terminal.specs.States.{noMessage, withMessage}
 use Rattle.terminal.specs.Commands.{isOwn}
 use Rattle.terminal.specs.Messages.{isUnderWay, isOn, awaitsData, isNextData, isSecond, isStatusFrom}
 use Rattle.terminal.specs.Rules.{faultyOf, rule3, begunOf, rule4, stagedOf, movedOf, nextData, nextWord, rule5, rules3to6}
+use Rattle.terminal.specs.declared.states.SpacingFault.{SpacingFault}
 use Rattle.terminal.specs.declared.states.Phase.{Phase}
 use Rattle.terminal.specs.declared.states.Phase.the-variants.{Idle, First, Pledged, Data}
 use Rattle.terminal.specs.declared.states.Message.{Message}
@@ -14,7 +15,7 @@ use Rattle.history.proofs.Tests.{cond-cases, and-left}
 
 -- what a fault, another message and an own command keep, they keep
 module _ {A : Type 0} (part : State → A)
-    (faulty : (s : State) → part (faultyOf s) ≡ part s)
+    (faulty : (s : State) (kind : SpacingFault) → part (faultyOf s kind) ≡ part s)
     (moved : (s : State) (m : Message) → part (withMessage s m) ≡ part s)
     (begun : (s : State) (r : WordRecord) → part (rule4 s r) ≡ part s)
     (s : State) (r : WordRecord) where
@@ -23,14 +24,14 @@ module _ {A : Type 0} (part : State → A)
 
   data-keeps : same (nextData s r)
   unfolding nextData
-  data-keeps = cond-cases same (awaitsData (s .message) && isNextData (s .message) r) (λ good. moved s (stagedOf (s .message) r)) (λ bad. faulty s)
+  data-keeps = cond-cases same (awaitsData (s .message) && isNextData (s .message) r) (λ good. moved s (stagedOf (s .message) r)) (λ bad. faulty s _)
 
   next-keeps : (p : Phase) → same (nextWord p s r)
   unfolding nextWord
   next-keeps Idle = refl
   next-keeps Data = data-keeps
   next-keeps First = cond-cases same (isSecond (s .setup .own) (s .message) r) (λ second. moved s _) (λ other. data-keeps)
-  next-keeps (Pledged address) = cond-cases same (isStatusFrom address r) (λ status. moved s _) (λ other. faulty s)
+  next-keeps (Pledged address) = cond-cases same (isStatusFrom address r) (λ status. moved s _) (λ other. faulty s _)
 
   pub rules-keep : same (rules3to6 s r)
   unfolding rules3to6 rule5

@@ -18,6 +18,8 @@ use Rattle.terminal.specs.Rules.{replyNow, settledOf, rule1, faultyOf, rule2, r
 use Rattle.terminal.specs.Events.{eventOf, happensOf, setUpRefusal, setUpOf, timeOf, isInRange, passedOf, takenOf, selftestCleared, restartedOf}
 use Rattle.terminal.specs.declared.states.Host.{Host}
 use Rattle.terminal.specs.declared.states.Setup.{Setup}
+use Rattle.terminal.specs.declared.states.SpacingFault.{SpacingFault}
+use Rattle.terminal.specs.declared.states.SpacingFault.the-variants.{Separated}
 use Rattle.terminal.specs.declared.states.Phase.{Phase}
 use Rattle.terminal.specs.declared.states.Phase.the-variants.{Idle, First, Pledged, Data}
 use Rattle.terminal.specs.declared.states.Message.{Message}
@@ -32,7 +34,7 @@ use Rattle.history.specs.States.{isTo, isOpening, Waiting, Sound}
 use Rattle.history.proofs.Tests.{false≢, cond-cases, and-left, and-right}
 use Rattle.history.proofs.Steps.{shown, not-earlier, record-on-clock}
 use Rattle.history.proofs.Phases.{opening-under-way, awaits-under-way, due-under-way}
-use Rattle.history.proofs.Holdings.{held-either, status-flag, held-fresh, command-noted, held-settled}
+use Rattle.history.proofs.Holdings.{held-kept, held-either, status-flag, held-fresh, command-noted, held-settled}
 use Rattle.history.proofs.Waitings.{waiting-later, window-later, waiting-begun, waiting-staged, waiting-moved, window-settled}
 
 -- ---- a set-up
@@ -74,9 +76,9 @@ module _ (s : State) (h : Sound s) where
   restarted-sound = search (held-fresh, false≢)
 
   -- after a faulty message
-  faulty-sound : Sound (faultyOf s)
+  faulty-sound : (kind : SpacingFault) → Sound (faultyOf s kind)
   unfolding faultyOf
-  faulty-sound = search (held-either, status-flag, false≢)
+  faulty-sound kind = search (held-kept, held-either, status-flag, false≢)
 
   -- with a message that goes on
   message-sound : (m : Message) → isUnderWay (s .message .phase) ≡ true
@@ -108,7 +110,7 @@ module _ (s : State) (h : Sound s) (t : ℕ) (later : s .time .0 ≤ t) (on-cloc
   unfolding passedOf rule1 rule2 faultyOf
   passed-sound transmit =
       let settled : P (rule1 s t transmit) = cond-cases P (isDue (s .message) t) (settled-sound transmit) (λ e. later-sound) in
-      cond-cases P (isLate (rule1 s t transmit .message) t) (λ e. faulty-sound _ settled) (λ e. settled)
+      cond-cases P (isLate (rule1 s t transmit .message) t) (λ e. faulty-sound _ settled Separated) (λ e. settled)
     where
       P : State → Type 0
       P x = Sound (atTime x t)
@@ -135,7 +137,7 @@ module _ (s : State) (h : Sound s) (r : WordRecord) (at : r .time .0 ≤ s .time
   data-sound : Sound (nextData s r)
   unfolding nextData
   data-sound =
-      cond-cases Sound (awaitsData (s .message) && isNextData (s .message) r) (λ e. search (staged-sound, and-left)) (λ e. faulty-sound s h)
+      cond-cases Sound (awaitsData (s .message) && isNextData (s .message) r) (λ e. search (staged-sound, and-left)) (λ e. faulty-sound s h _)
 
   -- after a word on the bus of the message under way
   next-sound : (p : Phase) → s .message .phase ≡ p → Sound (nextWord p s r)
@@ -145,7 +147,7 @@ module _ (s : State) (h : Sound s) (r : WordRecord) (at : r .time .0 ≤ s .time
   next-sound First e =
       cond-cases Sound (isSecond (s .setup .own) (s .message) r) (λ f. moved-sound (Pledged (addressOf (r .word))) (ap isOpening e))
       (λ f. data-sound)
-  next-sound (Pledged address) e = cond-cases Sound (isStatusFrom address r) (λ f. moved-sound Data (ap isOpening e)) (λ f. faulty-sound s h)
+  next-sound (Pledged address) e = cond-cases Sound (isStatusFrom address r) (λ f. moved-sound Data (ap isOpening e)) (λ f. faulty-sound s h _)
 
   -- after any word
   word-sound : inRange r ≡ true → Sound (rules3to6 s r)

@@ -37,7 +37,7 @@ use Rattle.history.proofs.Givens.{Given, none, some, answer-cases}
 
 rules-setup : (s : State) (r : WordRecord) → rules3to6 s r .setup ≡ s .setup
 unfolding faultyOf rule4
-rules-setup = rules-keep (λ (x : State). x .setup) (λ x. refl) (λ x m. refl) (λ x w. refl)
+rules-setup = rules-keep (λ (x : State). x .setup) (λ x kind. refl) (λ x m. refl) (λ x w. refl)
 
 taken-setup : (s : State) (e : Event) (transmit : List ℕ) → takenOf (passedOf s (timeOf e) transmit) e .setup ≡ s .setup
 taken-setup s (Mark t) transmit = passed-setup s (t .0) transmit

@@ -15,6 +15,7 @@ use Rattle.terminal.specs.Effects.{effectOf, heldAfter}
 use Rattle.terminal.specs.Rules.{statusNow, settledOf, rule1, faultyOf, rule2, rule3, notedStatus, notedCommand, begunOf, rule4, stagedOf, movedOf, nextData, nextWord, rule5, rules3to6}
 use Rattle.terminal.specs.Events.{timeOf, passedOf, takenOf}
 use Rattle.terminal.specs.declared.states.Own.{Own}
+use Rattle.terminal.specs.declared.states.SpacingFault.{SpacingFault}
 use Rattle.terminal.specs.declared.states.Held.{Held}
 use Rattle.terminal.specs.declared.states.Phase.{Phase}
 use Rattle.terminal.specs.declared.states.Phase.the-variants.{Idle, First, Pledged, Data}
@@ -27,6 +28,7 @@ use Rattle.history.specs.Calls.{Call, setUp, event, host, clearSelftest,
 use Rattle.history.specs.Courses.{ignores, isIgnored, leavesStatus, AllLeaveStatus}
 use Rattle.history.proofs.Tests.{false≢, cond-cases, and-left, and-right, or-cases}
 use Rattle.history.proofs.Phases.{due-under-way, late-under-way}
+use Rattle.history.proofs.Keeping.{kept-same}
 use Rattle.history.proofs.Steps.{stepped, refused-stays, refusal-keeps}
 
 -- ---- the two exempt commands
@@ -81,11 +83,15 @@ module _ {setup : Setup} {status : ℕ} where
         passing = λ h. false≢ h;
       }
 
-  faulty-stands : (s : State) → Standing setup status s → isUnderWay (s .message .phase) ≡ true → Standing setup status (faultyOf s)
+  faulty-stands : (s : State) (kind : SpacingFault) → Standing setup status s → isUnderWay (s .message .phase) ≡ true → Standing setup status (faultyOf s kind)
   unfolding faultyOf
-  faulty-stands s st on =
+  faulty-stands s kind st on =
       let exempt : isExempt (s .setup .own) (s .message .command .0) ≡ true = rw (st .same) (st .passing on) in
-      record { same = st .same; holds = rw exempt (st .holds); passing = λ h. false≢ h }
+      record {
+        same = st .same;
+        holds = kept-same (λ (h : Held). h .status .0) (λ h overlapping separated. refl) _ kind ∙ (rw exempt (st .holds));
+        passing = λ h. false≢ h;
+      }
 
 -- ---- an event
 
@@ -98,7 +104,7 @@ module _ {setup : Setup} {status : ℕ} where
       cond-cases (Standing setup status) (isDue (s .message) t) (λ due. settled-stands s transmit st (due-under-way (s .message) t due)) (λ not-due. st) in
       let x : State = rule1 s t transmit in
       let both : Standing setup status (rule2 x t) =
-      cond-cases (Standing setup status) (isLate (x .message) t) (λ late. faulty-stands x first (late-under-way (x .message) t late)) (λ in-time. first) in
+      cond-cases (Standing setup status) (isLate (x .message) t) (λ late. faulty-stands x _ first (late-under-way (x .message) t late)) (λ in-time. first) in
       record { same = both .same; holds = both .holds; passing = both .passing }
 
   -- the next word of an exempt command leaves it, and so does a word that is not
@@ -112,7 +118,7 @@ module _ {setup : Setup} {status : ℕ} where
 
       data-stands : Standing setup status (nextData s r)
       data-stands = cond-cases (Standing setup status) (awaitsData (s .message) && isNextData (s .message) r)
-          (λ good. moves (stagedOf (s .message) r) refl) (λ bad. faulty-stands s st on)
+          (λ good. moves (stagedOf (s .message) r) refl) (λ bad. faulty-stands s _ st on)
 
       go : (p : Phase) → Standing setup status (nextWord p s r)
       go Idle = st
@@ -120,7 +126,7 @@ module _ {setup : Setup} {status : ℕ} where
       go First = cond-cases (Standing setup status) (isSecond (s .setup .own) (s .message) r)
           (λ second. moves (movedOf (s .message) (Pledged (addressOf (r .word))) r) refl) (λ other. data-stands)
       go (Pledged address) = cond-cases (Standing setup status) (isStatusFrom address r)
-          (λ from. moves (movedOf (s .message) Data r) refl) (λ other. faulty-stands s st on)
+          (λ from. moves (movedOf (s .message) Data r) refl) (λ other. faulty-stands s _ st on)
 
   -- an exempt command leaves it, and is under way then
   begun-stands : (s : State) (r : WordRecord) → Standing setup status s → isExempt (s .setup .own) (r .word) ≡ true → Standing setup status (rule4 s r)

@@ -24,7 +24,7 @@ use Rattle.history.proofs.Moving.{rules-keep}
 
 rules-time : (s : State) (r : WordRecord) → rules3to6 s r .time ≡ s .time
 unfolding faultyOf rule4
-rules-time = rules-keep (λ (x : State). x .time) (λ x. refl) (λ x m. refl) (λ x w. refl)
+rules-time = rules-keep (λ (x : State). x .time) (λ x kind. refl) (λ x m. refl) (λ x w. refl)
 
 -- an accepted event sets it
 pub event-time : (s : State) (e : Event) (receive transmit : List ℕ) → isAccepted s e receive transmit ≡ true

@@ -12,6 +12,8 @@ use Rattle.terminal.specs.Commands.{isOwn, isExempt}
 use Rattle.terminal.specs.Messages.{isLate}
 use Rattle.terminal.specs.Rules.{faultyOf}
 use Rattle.terminal.specs.Events.{timeOf, passedOf, takenOf}
+use Rattle.terminal.specs.declared.states.SpacingFault.{SpacingFault}
+use Rattle.terminal.specs.declared.states.Held.{Held}
 use Rattle.terminal.specs.declared.states.Setup.{Setup}
 use Rattle.terminal.specs.declared.states.Terminal.{Terminal as State}
 use Rattle.terminal.specs.declared.answers.Answer.{Answer}
@@ -19,23 +21,28 @@ use Rattle.terminal.specs.declared.events.Event.{Event}
 use Rattle.terminal.specs.declared.events.Event.the-variants.{Mark, Word}
 use Rattle.history.specs.Calls.{Call, event, isAccepted, isRefused, step, run, answerIn}
 use Rattle.history.specs.Courses.{isIgnored, leavesStatus}
-use Rattle.history.specs.States.{hasBadWord, marksFault}
+use Rattle.history.specs.States.{marksFault}
 use Rattle.history.specs.Demands.{composing, AnswersWith, Stands, NoWipe, StatusStands}
 use Rattle.history.proofs.Tests.{false≢, and-left, and-right, or-cases}
 use Rattle.history.proofs.Steps.{stepped}
 use Rattle.history.proofs.Begun.{own-command}
+use Rattle.history.proofs.Keeping.{kept-same}
 use Rattle.history.proofs.Standing.{Standing, exempt-awaits, exempt-settled, taken-stands, call-stands, run-stands}
 use Rattle.history.proofs.Answered.{answered}
 use Rattle.history.proofs.Givens.{given-message}
-use Rattle.history.proofs.Faults.{late-faulty, bad-faulty, bad-under-way, passed-still}
+use Rattle.history.proofs.Faults.{hasBadWord, fault-either, late-faulty, bad-faulty, bad-under-way, passed-still}
 
 -- ---- the fault
 
 -- a message made faulty, of a command that is not exempt
-faulty-marked : (s : State) → isExempt (s .setup .own) (s .message .command .0) ≡ false
-    → Standing (s .setup) (withFlag MessageError (s .held .status .0)) (faultyOf s)
+faulty-marked : (s : State) (kind : SpacingFault) → isExempt (s .setup .own) (s .message .command .0) ≡ false
+    → Standing (s .setup) (withFlag MessageError (s .held .status .0)) (faultyOf s kind)
 unfolding faultyOf
-faulty-marked s plain = record { same = refl; holds = rw plain; passing = λ h. false≢ h }
+faulty-marked s kind plain = record {
+  same = refl;
+  holds = kept-same (λ (h : Held). h .status .0) (λ h overlapping separated. refl) _ kind ∙ (rw plain refl);
+  passing = λ h. false≢ h;
+}
 
 -- by its time
 late-marked : (s : State) (t : ℕ) (transmit : List ℕ) → isExempt (s .setup .own) (s .message .command .0) ≡ false → isLate (s .message) t ≡ true
@@ -43,7 +50,7 @@ late-marked : (s : State) (t : ℕ) (transmit : List ℕ) → isExempt (s .setup
 unfolding passedOf
 late-marked s t transmit plain late =
     let faulty = late-faulty s t transmit late in
-    let st = faulty-marked s plain in
+    let st = faulty-marked s _ plain in
     rw (faulty .0, faulty .1) (record { same = st .same; holds = st .holds; passing = st .passing })
 
 -- by a record that comes while it is still under way
@@ -54,7 +61,7 @@ word-marked s (Mark t) transmit plain bad = false≢ bad
 word-marked s (Word r) transmit plain bad =
     let x : State = passedOf s (r .time .0) transmit in
     let now : x ≡ atTime s (r .time .0) = passed-still s (r .time .0) transmit (bad-under-way x r bad) in
-    rw (bad-faulty x r bad, now) (faulty-marked (atTime s (r .time .0)) plain)
+    rw (bad-faulty x r bad, now) (faulty-marked (atTime s (r .time .0)) _ plain)
 
 -- by either
 event-marks : (s : State) (e : Event) (receive transmit : List ℕ) → isAccepted s e receive transmit ≡ true → marksFault s e transmit ≡ true
@@ -64,7 +71,7 @@ event-marks s e receive transmit ok marks outside =
     let x : State = passedOf s (timeOf e) transmit in
     let exempt : Bool = isExempt (s .setup .own) (s .message .command .0) in
     let plain : exempt ≡ false = not-true exempt (search (and-left, marks)) in
-    let which : (isLate (s .message) (timeOf e) || hasBadWord x e) ≡ true = search (and-left, and-right, marks) in
+    let which : (isLate (s .message) (timeOf e) || hasBadWord x e) ≡ true = sym (fault-either s e transmit) ∙ search (and-left, and-right, marks) in
     rw (stepped s e receive transmit ok)
     (or-cases (isLate (s .message) (timeOf e)) (hasBadWord x e) which
     (λ late. taken-stands x e receive transmit (late-marked s (timeOf e) transmit plain late) (λ quiet. outside))

@@ -6,27 +6,34 @@ use mathlib.Core.Path.{_≡_}
 use Prim.Native.Nat.{ℕ, _+_, _≤_}
 use mathlib.Core.Bool.{true, false, cond, _&&_}
 use mathlib.Core.List.{List, [], _∷_, _++_}
+use mathlib.Core.Logic.{_⊎_}
 use lib.Dec.{T}
 use lib.ListN.{length}
 use lib.Seq.{paste}
 use Rattle.words.specs.Words.{dueDistance, gapOf, addressOf, wordsOf, hasFlag, withFlag, hasNoOther, awaitedOf}
+use Rattle.words.specs.Refusals.{notRefused}
+use Rattle.words.specs.declared.times.Moment.{Moment}
 use Rattle.words.specs.declared.statuses.Flag.the-variants.{MessageError}
 use Rattle.records.specs.declared.forms.WordRecord.{WordRecord}
-use Rattle.terminal.specs.States.{noSending, freshOf, withHost}
+use Rattle.terminal.specs.States.{spacingIn, noSending, freshOf, withHost}
 use Rattle.terminal.specs.Commands.{isOwn, isExempt}
 use Rattle.terminal.specs.Messages.{isUnderWay, isSending}
 use Rattle.terminal.specs.Settling.{otherBus, settledStatus, firstPlace, replyOf, storesData, noAnswer}
 use Rattle.terminal.specs.Rules.{begunOf, rule3}
 use Rattle.terminal.specs.Events.{timeOf, setUpRefusal, nothingLegal, setUpOf, eventRefusal, passedOf, refusedOf, eventOf, eventReceive}
+use Rattle.terminal.specs.declared.states.SpacingFault.{SpacingFault}
+use Rattle.terminal.specs.declared.states.SpacingFault.the-variants.{None}
 use Rattle.terminal.specs.declared.states.Setup.{Setup}
 use Rattle.terminal.specs.declared.states.Terminal.{Terminal as State}
 use Rattle.terminal.specs.declared.answers.Answer.{Answer}
 use Rattle.terminal.specs.declared.events.Event.{Event}
 use Rattle.terminal.specs.declared.events.Event.the-variants.{Mark, Word}
+use Rattle.terminal.specs.declared.events.Happened.{Happened}
 use Rattle.terminal.specs.declared.setups.SetUp.{SetUp}
 use Rattle.history.specs.Calls.{Call, setUp, event, host, clearSelftest, restart, isAccepted, isSetUp, isRefused, step, run, Past, afterPast, answerIn, bringsOwn}
 use Rattle.history.specs.Courses.{Command, Course, Silent, NoOwn, NoSetUp, leavesStatus, AllLeaveStatus}
 use Rattle.history.specs.States.{isUnderWayOn, marksFault, ComesToFault, AtRest, Sound}
+use Rattle.history.specs.Kinds.{sets, changeBy, lastKind, AllLeaveKind}
 use Rattle.history.specs.Witnesses.{Met, answersAt1660, none, message, losses, eventLost}
 use Rattle.history.specs.Faults.{MarkMet, isMarked, each, marks, wipes, reportsAt3260, questioned, untold, eventUntold}
 
@@ -126,6 +133,65 @@ AsAMarkOnceSettled =
     → isOwn (s .setup .own) r ≡ false
     → isUnderWayOn (passedOf s (r .time .0) transmit .message) (r .bus) ≡ false
     → SameAsMark s r receive transmit
+
+-- ==== marks-do-not-matter: the host may ask the time as often as it likes, and nobody sees it
+
+-- What a mark gave, and the event then, with the receive table after it, against the event alone with its table: the event is taken, the terminal, the
+-- receive table and what was cut are the same after it, and the answer is carried once, by one of the two.
+pub record Unseen (mark then : Happened) (table : List ℕ) (alone : Happened) (tableAlone : List ℕ) : Type 0 where
+  pub taken : then .refusal .0 ≡ notRefused
+  pub terminal : then .terminal ≡ alone .terminal
+  pub receive : table ≡ tableAlone
+  pub cut : then .cut ≡ alone .cut
+  pub once : ((mark .answer ≡ noAnswer) × (then .answer ≡ alone .answer)) ⊎ ((mark .answer ≡ alone .answer) × (then .answer ≡ noAnswer))
+
+-- of any time mark directly before an accepted event, not later than it and with the same tables; a mark that is earlier than the event before is
+-- refused, and is not seen either
+abbrev pub UnseenFrom : State → Type 0
+UnseenFrom s =
+    (t : Moment) (e : Event) (receive transmit : List ℕ) → isAccepted s e receive transmit ≡ true
+    → t .0 ≤ timeOf e
+    → Unseen (eventOf s (Mark t) receive transmit)
+    (eventOf (eventOf s (Mark t) receive transmit .terminal) e (eventReceive s (Mark t) receive transmit) transmit)
+    (eventReceive (eventOf s (Mark t) receive transmit .terminal) e (eventReceive s (Mark t) receive transmit) transmit)
+    (eventOf s e receive transmit)
+    (eventReceive s e receive transmit)
+
+-- marks-do-not-matter: of every terminal whose message has its 32 places, as the code's has
+abbrev pub MarksDoNotMatter : Type 0
+MarksDoNotMatter = (s : State) → (isUnderWay (s .message .phase) ≡ true → length (s .message .words) ≡ 32) → UnseenFrom s
+
+-- marks-do-not-matter-after-any-past
+abbrev pub MarksDoNotMatterAfterAnyPast : Type 0
+MarksDoNotMatterAfterAnyPast = (past : Past) → UnseenFrom (afterPast past)
+
+-- ==== spacing-kept: "The terminal keeps the kind of its last spacing fault (fresh: none) for the host to read" (02 i)
+
+-- spacing-kept: of any terminal, after any calls
+abbrev pub SpacingKept : Type 0
+SpacingKept = (s : State) (ks : List Call) → spacingIn (run s ks .held) ≡ lastKind s (spacingIn (s .held)) ks
+
+-- spacing-kept-after-any-past: "(fresh: none)"
+abbrev pub SpacingKeptAfterAnyPast : Type 0
+SpacingKeptAfterAnyPast =
+    (past : Past)
+    → spacingIn (afterPast past .held) ≡ lastKind (setUpOf (past .address) (past .receive) (past .transmit) .terminal) None (past .calls)
+
+-- spacing-latest: once a call set it, it is that kind until another call sets it
+abbrev pub SpacingLatest : Type 0
+SpacingLatest =
+    (s : State) (k : Call) (kind : SpacingFault) → changeBy s k ≡ sets kind
+    → (ks : List Call) → AllLeaveKind (step s k) ks
+    → spacingIn (run (step s k) ks .held) ≡ kind
+
+-- kind-as-a-mark: with `as-a-mark`, a record that is no own command, on a bus where no message is under way, does to the kind what a time mark of its
+-- moment does
+abbrev pub KindAsAMark : Type 0
+KindAsAMark =
+    (s : State) (r : WordRecord) (receive transmit : List ℕ) → isAccepted s (Word r) receive transmit ≡ true
+    → isOwn (s .setup .own) r ≡ false
+    → isUnderWayOn (s .message) (r .bus) ≡ false
+    → spacingIn (step s (event (Word r) receive transmit) .held) ≡ spacingIn (step s (event (Mark (r .time)) receive transmit) .held)
 
 -- ==== no-wipe: "What I fear most: a word on bus B wipes out a fault marked a moment before on bus A."
 

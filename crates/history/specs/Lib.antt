@@ -2,6 +2,7 @@
 pub mod Calls
 pub mod Courses
 pub mod States
+pub mod Kinds
 pub mod Witnesses
 pub mod Faults
 pub mod Demands

@@ -1,7 +1,7 @@
 -- Faults as they are marked, what stands, and what every terminal that can be reached is like. Assumes nothing.
 use mathlib.Core.Path.{_≡_}
 use Prim.Native.Nat.{ℕ, _≤_}
-use mathlib.Core.Bool.{Bool, true, false, not, _&&_, _||_}
+use mathlib.Core.Bool.{Bool, true, false, not, cond, _&&_, _||_}
 use mathlib.Core.List.{List}
 use lib.Dec.{eqb}
 use lib.ListN.{length}
@@ -9,9 +9,11 @@ use Rattle.words.specs.Words.{onClock, addressOf, isBroadcast, isTransmit, isMo
 use Rattle.records.specs.declared.forms.WordRecord.{WordRecord}
 use Rattle.terminal.specs.Commands.{isOwn, isExempt}
 use Rattle.terminal.specs.Messages.{isUnderWay, awaitsData, isLate, isNextData, isSecond, isStatusFrom}
-use Rattle.terminal.specs.Rules.{rule1, faultyOf, rule2, rule3}
+use Rattle.terminal.specs.Rules.{rule1, faultyOf, rule2, rule3, faultIn}
 use Rattle.terminal.specs.Events.{timeOf, passedOf, takenOf}
 use Rattle.terminal.specs.declared.states.Own.{Own}
+use Rattle.terminal.specs.declared.states.SpacingFault.{SpacingFault}
+use Rattle.terminal.specs.declared.states.SpacingFault.the-variants.{None, Overlapping, Separated}
 use Rattle.terminal.specs.declared.states.Held.{Held}
 use Rattle.terminal.specs.declared.states.Phase.{Phase}
 use Rattle.terminal.specs.declared.states.Phase.the-variants.{Idle, First, Pledged, Data}
@@ -39,22 +41,36 @@ abbrev pub isBadWord : State → WordRecord → Bool
 isBadWord s r =
     not (rule3 s r) && not (isOwn (s .setup .own) r) && isUnderWayOn (s .message) (r .bus) && not (isNextWord (s .message .phase) s r)
 
--- an event brings such a word
-abbrev pub hasBadWord : State → Event → Bool
-hasBadWord s (Mark t) = false
-hasBadWord s (Word r) = isBadWord s r
+-- ---- the fault that an event shows
 
--- An event marks a fault: by its time, rule 2, or by its word, rule 5; "(not for the two exempt commands)".
+-- none, or one and its kind where it is a spacing fault (02 i)
+pub data Fault : Type 0 where
+  noFault : Fault
+  aFault : SpacingFault → Fault
+
+abbrev pub isFault : Fault → Bool
+isFault noFault = false
+isFault (aFault kind) = true
+
+-- by its word, rule 5
+abbrev pub wordFault : State → Event → Fault
+wordFault s (Mark t) = noFault
+wordFault s (Word r) = cond (isBadWord s r) (aFault (faultIn (s .message) r)) noFault
+
+-- by its time, rule 2, or by its word
+abbrev pub faultOf : State → Event → List ℕ → Fault
+faultOf s e transmit = cond (isLate (s .message) (timeOf e)) (aFault Separated) (wordFault (passedOf s (timeOf e) transmit) e)
+
+-- An event marks it; "(not for the two exempt commands)".
 abbrev pub marksFault : State → Event → List ℕ → Bool
-marksFault s e transmit =
-    not (isExempt (s .setup .own) (s .message .command .0))
-    && (isLate (s .message) (timeOf e) || hasBadWord (passedOf s (timeOf e) transmit) e)
+marksFault s e transmit = not (isExempt (s .setup .own) (s .message .command .0)) && isFault (faultOf s e transmit)
 
--- A message under way is made faulty, of a command that is not exempt: what comes of the state is `faultyOf` of it.
+-- A message under way is made faulty, of a command that is not exempt: what comes of the state is `faultyOf` of it and of some kind.
 pub record MadeFaulty (s next : State) : Type 0 where
   pub under-way : isUnderWay (s .message .phase) ≡ true
   pub marked : isExempt (s .setup .own) (s .message .command .0) ≡ false
-  pub faulty : next ≡ faultyOf s
+  pub kind : SpacingFault
+  pub faulty : next ≡ faultyOf s kind
 
 -- The rules of an event come to it: rule 2 at its time, once rule 1 is done, or its record, once rules 1 and 2 are done.
 pub data ComesToFault (s : State) (e : Event) (transmit : List ℕ) : Type 0 where
@@ -90,6 +106,8 @@ pub record Holding (own : Own) (h : Held) : Type 0 where
   pub command : (eqb (h .command .0) 0 || isTo own (h .command .0)) ≡ true
   -- one transmitter for each bus
   pub shut : length (h .shut) ≡ 2
+  -- the last spacing fault was of one kind
+  pub spacing : (h .overlapping && h .separated) ≡ false
 
 -- a message under way, of a terminal of that own address whose last event had that time
 pub record Waiting (own : Own) (now : ℕ) (m : Message) : Type 0 where

@@ -1,0 +1,242 @@
+-- The kind of the last spacing fault is that which the calls tell. Assumes nothing.
+use mathlib.Core.Path.{_≡_, refl, sym, ap, _∙_}
+use Prim.Native.Nat.{ℕ}
+use mathlib.Core.Bool.{Bool, true, false, cond, _&&_}
+use mathlib.Core.List.{List, [], _∷_}
+use lib.Dec.{eqb}
+use borrow.Author.Tests.{eqb-true, not-true}
+use Rattle.words.specs.Words.{codeOf, isMode}
+use Rattle.records.specs.declared.forms.WordRecord.{WordRecord}
+use Rattle.terminal.specs.States.{withStatus, noMessage, withMessage, spacingIn, atTime}
+use Rattle.terminal.specs.Commands.{isOwn, isExempt, isLegal}
+use Rattle.terminal.specs.Messages.{isUnderWay, isOn, awaitsData, isDue, isLate, isNextData, isSecond, isStatusFrom}
+use Rattle.terminal.specs.Effects.{effectOf, heldAfter}
+use Rattle.terminal.specs.Rules.{settledOf, markedOf, keptBy, faultyOf, rule3, notedStatus, notedCommand, rule4, faultIn, nextData, nextWord, rule5, rules3to6}
+use Rattle.terminal.specs.Events.{timeOf, setUpOf, passedOf, takenOf}
+use Rattle.terminal.specs.declared.states.Own.{Own}
+use Rattle.terminal.specs.declared.states.SpacingFault.{SpacingFault}
+use Rattle.terminal.specs.declared.states.SpacingFault.the-variants.{None, Overlapping, Separated}
+use Rattle.terminal.specs.declared.states.Held.{Held}
+use Rattle.terminal.specs.declared.states.Phase.{Phase}
+use Rattle.terminal.specs.declared.states.Phase.the-variants.{Idle, First, Pledged, Data}
+use Rattle.terminal.specs.declared.states.Message.{Message}
+use Rattle.terminal.specs.declared.states.Terminal.{Terminal as State}
+use Rattle.terminal.specs.declared.events.Event.{Event}
+use Rattle.terminal.specs.declared.events.Event.the-variants.{Mark, Word}
+use Rattle.terminal.specs.declared.events.Happened.{Happened}
+use Rattle.terminal.specs.declared.setups.SetUp.{SetUp}
+use Rattle.history.specs.Calls.{Call, setUp, event, host, clearSelftest, restart, isAccepted, isSetUp, step, run}
+use Rattle.history.specs.States.{isUnderWayOn, isNextWord, isBadWord, noFault, aFault, wordFault, faultOf}
+use Rattle.history.specs.Kinds.{Change, leaves, sets, byFault, isReset, byEvent, changeBy, afterChange, lastKind, AllLeaveKind}
+use Rattle.history.specs.Demands.{SpacingKept, SpacingKeptAfterAnyPast, SpacingLatest, KindAsAMark}
+use Rattle.history.proofs.Tests.{true≢, false≢, cond-cases, or-cases}
+use Rattle.history.proofs.Steps.{stepped, refused-stays}
+use Rattle.history.proofs.Passing.{still, due-ends}
+use Rattle.history.proofs.Marks.{as-a-mark}
+use Rattle.history.proofs.Faults.{bad-faulty, bad-under-way, late-not-due}
+use Rattle.history.proofs.Polling.{by-time, due-passed, late-passed, late-ends}
+
+abbrev kindIn : State → SpacingFault
+kindIn s = spacingIn (s .held)
+
+-- ---- a fault
+
+kept-kind : (h : Held) (kind : SpacingFault) → spacingIn (keptBy h kind) ≡ afterChange (spacingIn h) (byFault (aFault kind))
+unfolding spacingIn
+kept-kind h None = refl
+kept-kind h Overlapping = refl
+kept-kind h Separated = refl
+
+-- the mark leaves it
+marked-kind : (own : Own) (h : Held) (w : ℕ) → spacingIn (markedOf own h w) ≡ spacingIn h
+unfolding spacingIn
+marked-kind own h w = cond-cases (λ (x : Held). spacingIn x ≡ spacingIn h) (isExempt own w) (λ e. refl) (λ e. refl)
+
+faulty-kind : (s : State) (kind : SpacingFault) → kindIn (faultyOf s kind) ≡ afterChange (kindIn s) (byFault (aFault kind))
+unfolding faultyOf
+faulty-kind s kind =
+    kept-kind _ kind ∙ ap (λ (x : SpacingFault). afterChange x (byFault (aFault kind))) (marked-kind (s .setup .own) (s .held) (s .message .command .0))
+
+-- ---- a settled message
+
+-- of the effects that of code 8 alone sets it
+module _ (own : Own) (h : Held) (code : ℕ) where
+  abbrev Resets : Held → Type 0
+  Resets x = spacingIn x ≡ cond (eqb code 8) None (spacingIn h)
+
+  other : (n : ℕ) → eqb n 8 ≡ false → (x y : Held) → spacingIn x ≡ spacingIn h → Resets y → Resets (cond (eqb code n) x y)
+  other n differs x y same rest =
+      cond-cases Resets (eqb code n)
+      (λ is. same ∙ sym (ap (λ (b : Bool). cond b None (spacingIn h)) (ap (λ (c : ℕ). eqb c 8) (eqb-true code n is) ∙ differs)))
+      (λ not. rest)
+
+  reset : (x y : Held) → spacingIn x ≡ None → spacingIn y ≡ spacingIn h → Resets (cond (eqb code 8) x y)
+  reset x y fresh same = go (eqb code 8)
+    where
+      go : (b : Bool) → spacingIn (cond b x y) ≡ cond b None (spacingIn h)
+      go true = fresh
+      go false = same
+
+  effect-kind : (bus word : ℕ) → Resets (effectOf own h code bus word)
+  unfolding effectOf spacingIn
+  effect-kind bus word =
+      other 1 refl _ _ refl
+      (other 3 refl _ _ refl
+      (other 4 refl _ _ refl
+      (other 5 refl _ _ refl
+      (other 6 refl _ _ refl
+      (other 7 refl _ _ refl
+      (reset _ _ refl (cond-cases (λ (x : Held). spacingIn x ≡ spacingIn h) (eqb code 17) (λ is. refl) (λ not. refl))))))))
+
+either-kind : (b c : Bool) (x y : Held) (kind : SpacingFault) → spacingIn x ≡ cond c None kind → spacingIn y ≡ kind → spacingIn (cond b x y) ≡ cond (b && c) None kind
+either-kind true c x y kind p q = p
+either-kind false c x y kind p q = q
+
+settled-kind : (s : State) (transmit : List ℕ) → kindIn (settledOf s transmit) ≡ cond (isReset s) None (kindIn s)
+unfolding settledOf heldAfter spacingIn
+settled-kind s transmit =
+    either-kind (isLegal (s .setup) (s .message .command .0) && isMode (s .message .command .0)) _ _ _ _
+    (effect-kind (s .setup .own) (withStatus (s .held) _) (codeOf (s .message .command .0)) (s .message .bus) _) refl
+
+-- ---- a record
+
+-- an own command leaves it
+begun-kind : (s : State) (r : WordRecord) → kindIn (rule4 s r) ≡ kindIn s
+unfolding rule4 notedCommand notedStatus spacingIn
+begun-kind s r =
+    let own : Own = s .setup .own in
+    let same : Held → Type 0 = λ h. spacingIn h ≡ kindIn s in
+    cond-cases same (isExempt own (r .word) && eqb (codeOf (r .word)) 18) (λ last. noted) (λ other. noted)
+  where
+    noted : spacingIn (notedStatus (s .setup .own) (s .held) (r .word)) ≡ kindIn s
+    noted = cond-cases (λ (h : Held). spacingIn h ≡ kindIn s) (isExempt (s .setup .own) (r .word)) (λ e. refl) (λ e. refl)
+
+-- the next word leaves it
+next-kind : (p : Phase) (s : State) (r : WordRecord) → isNextWord p s r ≡ true → kindIn (nextWord p s r) ≡ kindIn s
+unfolding nextWord nextData
+next-kind Idle s r good = refl
+next-kind Data s r good = rw good refl
+next-kind First s r good =
+    or-cases (isSecond (s .setup .own) (s .message) r) (awaitsData (s .message) && isNextData (s .message) r) good
+    (λ second. rw second refl)
+    (λ next. cond-cases (λ (x : State). kindIn x ≡ kindIn s) (isSecond (s .setup .own) (s .message) r) (λ second. refl) (λ other. rw next refl))
+next-kind (Pledged address) s r good = rw good refl
+
+-- and so does any that makes no message faulty
+good-kind : (s : State) (r : WordRecord) → isBadWord s r ≡ false → kindIn (rules3to6 s r) ≡ kindIn s
+unfolding rules3to6 rule5 isOn
+good-kind s r good = go (rule3 s r) refl (isOwn (s .setup .own) r) refl (isUnderWayOn (s .message) (r .bus)) refl (isNextWord (s .message .phase) s r) refl
+  where
+    go : (a : Bool) → rule3 s r ≡ a
+        → (b : Bool) → isOwn (s .setup .own) r ≡ b
+        → (c : Bool) → isUnderWayOn (s .message) (r .bus) ≡ c
+        → (d : Bool) → isNextWord (s .message .phase) s r ≡ d
+        → kindIn (rules3to6 s r) ≡ kindIn s
+    go true sending b own c here d next = rw sending refl
+    go false quiet true own c here d next = rw (quiet, own) (begun-kind s r)
+    go false quiet false foreign false elsewhere d next = rw (quiet, foreign, elsewhere) refl
+    go false quiet false foreign true here true next = rw (quiet, foreign, here) (next-kind (s .message .phase) s r next)
+    go false quiet false foreign true here false bad = true≢ (rw (quiet, foreign, here, bad) at good)
+
+word-kind : (s : State) (r : WordRecord) → kindIn (rules3to6 s r) ≡ afterChange (kindIn s) (byFault (wordFault s (Word r)))
+word-kind s r = go (isBadWord s r) refl
+  where
+    go : (b : Bool) → isBadWord s r ≡ b → kindIn (rules3to6 s r) ≡ afterChange (kindIn s) (byFault (cond b (aFault (faultIn (s .message) r)) noFault))
+    go true bad = ap kindIn (bad-faulty s r bad) ∙ faulty-kind s (faultIn (s .message) r)
+    go false good = good-kind s r good
+
+taken-kind : (s : State) (e : Event) → kindIn (takenOf s e) ≡ afterChange (kindIn s) (byFault (wordFault s e))
+taken-kind s (Mark t) = refl
+taken-kind s (Word r) = word-kind s r
+
+-- where no message is under way no word makes one faulty
+idle-sound : (s : State) (e : Event) → s .message ≡ noMessage → wordFault s e ≡ noFault
+idle-sound s (Mark t) idle = refl
+idle-sound s (Word r) idle = go (isBadWord s r) refl
+  where
+    go : (b : Bool) → isBadWord s r ≡ b → cond b (aFault (faultIn (s .message) r)) noFault ≡ noFault
+    go true bad = false≢ (ap (λ (m : Message). isUnderWay (m .phase)) (sym idle) ∙ bad-under-way s r bad)
+    go false good = refl
+
+-- ---- an event
+
+due-in-time : (m : Message) (t : ℕ) → isDue m t ≡ true → isLate m t ≡ false
+due-in-time m t due = go (isLate m t) refl
+  where
+    go : (b : Bool) → isLate m t ≡ b → b ≡ false
+    go true late = true≢ (sym due ∙ late-not-due m t late)
+    go false in-time = refl
+
+reset-if : (b : Bool) (kind : SpacingFault) → afterChange kind (cond b (sets None) leaves) ≡ cond b None kind
+reset-if true kind = refl
+reset-if false kind = refl
+
+event-kind : (s : State) (e : Event) (transmit : List ℕ)
+    → kindIn (takenOf (passedOf s (timeOf e) transmit) e) ≡ afterChange (kindIn s) (byEvent s e transmit)
+event-kind s e transmit = taken-kind (passedOf s (timeOf e) transmit) e ∙ by-time (s .message) (timeOf e) settles faults waits
+  where
+    Fact : Type 0
+    Fact = afterChange (kindIn (passedOf s (timeOf e) transmit)) (byFault (wordFault (passedOf s (timeOf e) transmit) e))
+        ≡ afterChange (kindIn s) (byEvent s e transmit)
+
+    settles : isDue (s .message) (timeOf e) ≡ true → Fact
+    settles due =
+        let nothing = idle-sound (passedOf s (timeOf e) transmit) e (due-ends s (timeOf e) transmit due) in
+        rw (nothing, due, due-in-time (s .message) (timeOf e) due)
+        (ap kindIn (due-passed s transmit (timeOf e) due) ∙ settled-kind s transmit ∙ sym (reset-if (isReset s) (kindIn s)))
+
+    faults : isLate (s .message) (timeOf e) ≡ true → Fact
+    faults late =
+        let nothing = idle-sound (passedOf s (timeOf e) transmit) e (late-ends s transmit (timeOf e) late) in
+        rw (nothing, late-not-due (s .message) (timeOf e) late, late)
+        (ap kindIn (late-passed s transmit (timeOf e) late) ∙ faulty-kind s Separated)
+
+    waits : isDue (s .message) (timeOf e) ≡ false → isLate (s .message) (timeOf e) ≡ false → Fact
+    waits not-due in-time = rw (not-due, in-time) (ap (λ (y : State). afterChange (kindIn y) (byFault (wordFault (passedOf s (timeOf e) transmit) e))) (still s (timeOf e) transmit not-due in-time))
+
+-- ---- a call, and any calls
+
+set-up-fresh : (address : ℕ) (receive transmit : List ℕ) → kindIn (setUpOf address receive transmit .terminal) ≡ None
+unfolding setUpOf spacingIn
+set-up-fresh address receive transmit = cond-cases (λ (x : SetUp). kindIn (x .terminal) ≡ None) (isSetUp address receive transmit) (λ set. refl) (λ bad. refl)
+
+call-kind : (s : State) (k : Call) → kindIn (step s k) ≡ afterChange (kindIn s) (changeBy s k)
+unfolding step spacingIn
+call-kind s (setUp address receive transmit) = go (isSetUp address receive transmit)
+  where
+    go : (b : Bool) → kindIn (cond b (setUpOf address receive transmit .terminal) s) ≡ afterChange (kindIn s) (cond b (sets None) leaves)
+    go true = set-up-fresh address receive transmit
+    go false = refl
+call-kind s (event e receive transmit) = go (isAccepted s e receive transmit) refl
+  where
+    go : (b : Bool) → isAccepted s e receive transmit ≡ b
+        → kindIn (step s (event e receive transmit)) ≡ afterChange (kindIn s) (cond b (byEvent s e transmit) leaves)
+    go true ok = ap kindIn (stepped s e receive transmit ok) ∙ event-kind s e transmit
+    go false bad = ap kindIn (refused-stays s e receive transmit bad)
+call-kind s (host setting) = refl
+call-kind s clearSelftest = refl
+call-kind s restart = refl
+
+pub spacing-kept : SpacingKept
+unfolding run
+spacing-kept s [] = refl
+spacing-kept s (k ∷ ks) = spacing-kept (step s k) ks ∙ ap (λ (kind : SpacingFault). lastKind (step s k) kind ks) (call-kind s k)
+
+pub spacing-kept-after-any-past : SpacingKeptAfterAnyPast
+spacing-kept-after-any-past past =
+    let s : State = setUpOf (past .address) (past .receive) (past .transmit) .terminal in
+    spacing-kept s (past .calls)
+    ∙ ap (λ (kind : SpacingFault). lastKind s kind (past .calls)) (set-up-fresh (past .address) (past .receive) (past .transmit))
+
+-- calls that do nothing to it leave it
+stays : (s : State) (kind : SpacingFault) (ks : List Call) → AllLeaveKind s ks → lastKind s kind ks ≡ kind
+stays s kind [] all = refl
+stays s kind (k ∷ ks) all = ap (λ (c : Change). lastKind (step s k) (afterChange kind c) ks) (all .0) ∙ stays (step s k) kind ks (all .1)
+
+pub spacing-latest : SpacingLatest
+spacing-latest s k kind sets-it ks all =
+    spacing-kept (step s k) ks ∙ stays (step s k) _ ks all ∙ call-kind s k ∙ ap (afterChange (kindIn s)) sets-it
+
+pub kind-as-a-mark : KindAsAMark
+unfolding step
+kind-as-a-mark s r receive transmit ok foreign off = ap (λ (h : Happened). kindIn (h .terminal)) (as-a-mark s r receive transmit ok foreign off .0)
