@@ -24,6 +24,7 @@ pub(crate) enum Name {
     ReceivedWord,
     ReceivedWords,
     State,
+    Spacing,
     Plan,
     Back,
     Bytes,
@@ -46,7 +47,7 @@ const NAME_LETTERS: usize = 9;
 // How the calls are written: a name, which spaces fill up to nine characters, then a letter for each number. r is r or t, w a word, m a
 // mask, * the rest of the line; the others are decimal: f a flag, s a subaddress, k a number of masks, b below 256, l a number of words that
 // are lent, h below 65,536, t below 2^64.
-const FORMS: [[u8; 16]; 25] = [
+const FORMS: [[u8; 16]; 26] = [
     *b"word     tbbbwb ",
     *b"mark     t      ",
     *b"mask     rsm    ",
@@ -65,6 +66,7 @@ const FORMS: [[u8; 16]; 25] = [
     *b"received t      ",
     *b"received tt     ",
     *b"state           ",
+    *b"spacing         ",
     *b"plan     bwwbtt ",
     *b"back     tbbbwb ",
     *b"bytes    *      ",
@@ -75,7 +77,7 @@ const FORMS: [[u8; 16]; 25] = [
 ];
 
 // The names of these, in the same order.
-const NAMES: [Name; 25] = [
+const NAMES: [Name; 26] = [
     Name::Word,
     Name::Mark,
     Name::Mask,
@@ -94,6 +96,7 @@ const NAMES: [Name; 25] = [
     Name::ReceivedWord,
     Name::ReceivedWords,
     Name::State,
+    Name::Spacing,
     Name::Plan,
     Name::Back,
     Name::Bytes,
@@ -105,7 +108,7 @@ const NAMES: [Name; 25] = [
 
 // Gives the name of the form of that number.
 fn name_at(number: usize) -> Name {
-    if number < 25 {
+    if number < 26 {
         return NAMES[number];
     }
     Name::None

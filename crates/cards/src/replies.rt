@@ -7,6 +7,7 @@ use lines::Block;
 use lines::Sink;
 use terminal::Answer;
 use terminal::NextMoment;
+use terminal::SpacingFault;
 use terminal::Terminal;
 use verdict::Verdict;
 use words::Refusal;
@@ -20,6 +21,8 @@ pub(crate) enum Reply {
     // a place of the receive table, and how many words from there
     Words(usize, usize),
     State,
+    // the kind of the terminal's last spacing fault
+    Spacing,
     Verdict(Verdict),
     // how many records a verdict looked at
     Looked(u8),
@@ -60,6 +63,15 @@ fn put_state(sink: Sink, out: &mut Block, terminal: Terminal) -> Sink {
         values,
     );
     put_next(after, out, terminal.next_moment())
+}
+
+// Puts the line of a last spacing fault.
+fn put_spacing(sink: Sink, out: &mut Block, fault: SpacingFault) -> Sink {
+    match fault {
+        SpacingFault::None => sink.put_text(out, b"spacing none"),
+        SpacingFault::Overlapping => sink.put_text(out, b"spacing overlapping"),
+        SpacingFault::Separated => sink.put_text(out, b"spacing separated"),
+    }
 }
 
 // Puts the words of an answer, a space before each.
@@ -141,6 +153,7 @@ fn put_done(sink: Sink, out: &mut Block, done: Done, receive: &[u16]) -> Sink {
         Reply::Happened => put_happened(sink, out, answer, done.cut),
         Reply::Words(start, count) => put_words(sink, out, words_at(receive, start, count)),
         Reply::State => put_state(sink, out, terminal),
+        Reply::Spacing => put_spacing(sink, out, terminal.last_spacing_fault()),
         Reply::Verdict(verdict) => put_one(sink, out, b"verdict N", verdict.0 as u64),
         Reply::Looked(count) => put_one(sink, out, b"looked N", count as u64),
         Reply::Records(count) => put_one(sink, out, b"records N", count),

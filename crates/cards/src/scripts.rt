@@ -80,6 +80,7 @@ impl Bench {
             Name::ReceivedWord => self.received(numbers[0] as usize, 1),
             Name::ReceivedWords => self.received(numbers[0] as usize, numbers[1] as usize),
             Name::State => self.replied(Reply::State),
+            Name::Spacing => self.replied(Reply::Spacing),
             Name::Plan => self.planned(plan_of(numbers)),
             Name::Help => self.replied(Reply::Help),
             _ => self.host(name, numbers[0]),

@@ -12,7 +12,7 @@ const USAGE_LETTERS: usize = 40;
 
 // How each call is written, which spaces fill up to 40 characters, and what it does, which they fill up too. A call with two forms has
 // two, one behind the other.
-const USAGES: [[u8; 104]; 27] = [
+const USAGES: [[u8; 104]; 28] = [
     *b"mask r S MASK                           the receive mask of subaddress S (0 to 31), for later set-ups   ",
     *b"mask t S MASK                           the transmit mask of subaddress S, for later set-ups            ",
     *b"setup A                                 sets the terminal up, fresh, with address A and those masks     ",
@@ -32,6 +32,7 @@ const USAGES: [[u8; 104]; 27] = [
     *b"received I                              writes the word at place I of the receive table                 ",
     *b"received I N                            writes N words of the receive table from place I on             ",
     *b"state                                   writes the terminal's state and its next moment                 ",
+    *b"spacing                                 writes the kind of the terminal's last spacing fault            ",
     *b"plan N C1 C2 BUS E Q                    N commands, the last word sent at E, listened up to Q           ",
     *b"back TIME BUS SYNC FAULTS WORD PARITY   puts a record at the end of the byte buffer                     ",
     *b"bytes HEX..                             puts bytes at the end of the byte buffer                        ",
