@@ -379,7 +379,8 @@ enum {
     COMPLETE, /* nothing: it has a due time */
 };
 
-/* "Fresh: transmitters on, nothing inhibited, status the own address, .. no message"; the sending is the caller's. */
+/* "Fresh: transmitters on, nothing inhibited, status the own address, .. no message", and of the last spacing fault
+ * "fresh: none" (02 i); the sending is the caller's. */
 static void make_fresh(plain_terminal *t)
 {
     t->status = plain_status_build(t->address, 0);
@@ -388,6 +389,7 @@ static void make_fresh(plain_terminal *t)
     t->self_test = 0;
     t->inhibited = 0;
     t->shut[0] = t->shut[1] = 0;
+    t->spacing_fault = PLAIN_FAULT_NONE;
     t->stage = IDLE;
 }
 
@@ -611,8 +613,13 @@ static int take_word(plain_terminal *t, const plain_record *r)
         return 1;
     }
     /* "Otherwise the message is faulty, also when all its words had come." */
-    if (t->stage == COMPLETE || !plain_spaced(t->last_word, r->time))
+    if (t->stage == COMPLETE)
         return 0;
+    /* Spacing is asked before validity and sync (02 i). Above 205 rule 2 has ended the message: it is below 195. */
+    if (!plain_spaced(t->last_word, r->time)) {
+        t->spacing_fault = PLAIN_FAULT_OVERLAPPING;
+        return 0;
+    }
     if (t->stage == FIRST && is_second_command(t, r)) {
         t->partner = (uint16_t)plain_command_address(r->word);
         t->stage = STATUS;
@@ -650,8 +657,10 @@ static void pass_time(plain_terminal *t, uint64_t time, const plain_tables *tabl
     if (t->stage == COMPLETE && t->last_word + DUE_AFTER <= time)
         settle(t, tables, result);
     /* "A message that still awaits a data word with t more than 205 past its last word is faulty." */
-    else if (awaits_data(t) && time > t->last_word + SPACED_MOST)
+    else if (awaits_data(t) && time > t->last_word + SPACED_MOST) {
+        t->spacing_fault = PLAIN_FAULT_SEPARATED;
         end_faulty(t);
+    }
 }
 
 unsigned plain_event_mark(plain_terminal *t, uint64_t time, const plain_tables *tables, plain_result *result)
@@ -764,6 +773,11 @@ int plain_shut(const plain_terminal *t, unsigned bus)
 int plain_inhibited(const plain_terminal *t)
 {
     return t->inhibited;
+}
+
+unsigned plain_last_spacing(const plain_terminal *t)
+{
+    return t->spacing_fault;
 }
 
 uint64_t plain_last_time(const plain_terminal *t)

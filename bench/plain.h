@@ -74,6 +74,9 @@ unsigned plain_verdict(const plain_plan *plan, const uint8_t *bytes, size_t n, u
 
 /* ---- the terminal */
 
+/* The kind of the last spacing fault. */
+enum { PLAIN_FAULT_NONE, PLAIN_FAULT_OVERLAPPING, PLAIN_FAULT_SEPARATED };
+
 typedef struct {
     /* set-up */
     uint32_t receive_masks[PLAIN_MASKS], transmit_masks[PLAIN_MASKS];
@@ -84,6 +87,7 @@ typedef struct {
     /* what a restart makes fresh */
     uint16_t status, last_command, sync_word;
     uint8_t self_test, inhibited, shut[2];
+    uint8_t spacing_fault;
     /* the message under way */
     uint8_t stage, bus, awaited, got; /* awaited and got count data words */
     uint16_t command;
@@ -136,6 +140,7 @@ uint16_t plain_sync_word(const plain_terminal *t);
 int plain_self_test(const plain_terminal *t);
 int plain_shut(const plain_terminal *t, unsigned bus);
 int plain_inhibited(const plain_terminal *t);
+unsigned plain_last_spacing(const plain_terminal *t); /* PLAIN_FAULT_.. */
 uint64_t plain_last_time(const plain_terminal *t);
 /* The next moment at which time alone matters, or PLAIN_NONE. */
 uint64_t plain_next(const plain_terminal *t);

@@ -67,13 +67,20 @@ static void add_result(bench *b, const plain_result *r)
         add(b, r->words[i], 2);
 }
 
+static unsigned flags(const plain_terminal *t)
+{
+    unsigned spacing = plain_last_spacing(t);
+    int held = plain_self_test(t) + 2 * plain_shut(t, 0) + 4 * plain_shut(t, 1) + 8 * plain_inhibited(t);
+    return (unsigned)held + 16 * (spacing == PLAIN_FAULT_OVERLAPPING) + 32 * (spacing == PLAIN_FAULT_SEPARATED);
+}
+
 static void add_state(bench *b)
 {
     const plain_terminal *t = &b->terminal;
     add(b, plain_status(t), 2);
     add(b, plain_last_command(t), 2);
     add(b, plain_sync_word(t), 2);
-    add(b, (unsigned)(plain_self_test(t) + 2 * plain_shut(t, 0) + 4 * plain_shut(t, 1) + 8 * plain_inhibited(t)), 1);
+    add(b, flags(t), 1);
     add(b, plain_last_time(t), 8);
     add(b, plain_next(t), 8);
 }

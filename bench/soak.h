@@ -81,7 +81,8 @@
  * 2. for an event that was accepted: 1 byte, 1 if it carries an answer, plus 2 if it cut a sending; then for an
  *    answer: bus 1, due time 8, status 2, number of data words 1, each word 2 bytes;
  * 3. stored status 2, last command 2, sync word 2, 1 byte (1 self-test request + 2 A shut + 4 B shut + 8 terminal flag
- *    inhibited), last time 8, next moment 8 bytes, 2^64 - 1 for none;
+ *    inhibited + 16 last spacing fault overlapping + 32 last spacing fault separated), last time 8, next moment 8
+ *    bytes, 2^64 - 1 for none;
  * 4. after an event that carried an answer, and after every call whose number (the first set-up is 1) is a multiple of
  *    1,024: for each place of the receive table, rising, whose word is another than in a copy of the table: place 2,
  *    word 2 bytes; then the copy is made anew. The copy starts as zeros.

@@ -2,6 +2,7 @@
 use crate::draws::times;
 use terminal::Answer;
 use terminal::NextMoment;
+use terminal::SpacingFault;
 use terminal::Terminal;
 
 // "h starts as CBF29CE484222325h"
@@ -66,12 +67,22 @@ pub(crate) fn add_answer(sum: u64, answer: Answer, cut: bool) -> u64 {
     add_words(count, words, answer.count)
 }
 
-// "1 byte (1 self-test request + 2 A shut + 4 B shut + 8 terminal flag inhibited)"
+// "16 last spacing fault overlapping + 32 last spacing fault separated"
+fn spacing(fault: SpacingFault) -> u8 {
+    match fault {
+        SpacingFault::None => 0,
+        SpacingFault::Overlapping => 16,
+        SpacingFault::Separated => 32,
+    }
+}
+
+// "1 byte (1 self-test request + 2 A shut + 4 B shut + 8 terminal flag inhibited + ..)"
 fn flags(terminal: Terminal) -> u8 {
     bit(terminal.wants_selftest(), 1)
         | bit(terminal.is_shut_down(0), 2)
         | bit(terminal.is_shut_down(1), 4)
         | bit(terminal.is_inhibited(), 8)
+        | spacing(terminal.last_spacing_fault())
 }
 
 fn add_next(sum: u64, next: NextMoment) -> u64 {
