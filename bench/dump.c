@@ -1,5 +1,5 @@
-/* What busdump does, in plain C, made from the text of requests a and i of document 02, read as DECISIONS 42 to 46 read it, and not
- * from the crates: dump [-e] [-v] FILE. It writes the same lines in constant memory: two walks over the file, one a bus, each
+/* What busdump does, in plain C, made from the text of requests a and i of document 02, read as DECISIONS 42 to 46 read
+ * them, and not from the crates: dump [-e] [-v] FILE. It writes the same lines in constant memory: two walks over the file, one a bus, each
  * giving the entries of its bus in order, are merged by the place of an entry's first record; and it says the same of a refused
  * file. Exit status: 0 the log is written, also of a refused file; 2 wrong usage, or a file that cannot be read. */
 #include "commands.h"

@@ -602,7 +602,8 @@ static int is_second_command(const plain_terminal *t, const plain_record *r)
            plain_command_count(r->word) == plain_command_count(t->command);
 }
 
-/* Whether the record is the next word of the message under way; if so it is taken. */
+/* Whether the record is the next word of the message under way: if so it is taken, else its spacing
+ * fault is kept. */
 static int take_word(plain_terminal *t, const plain_record *r)
 {
     if (t->stage == STATUS) {

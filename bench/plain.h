@@ -1,5 +1,5 @@
-/* The card's logic once more, in plain C, written from documents 01 and 02 and their readings alone, so that the proved library
- * can be held against it. Numbers and structs of the caller; nothing is allocated and nothing is kept outside them. A
+/* The card's logic once more, in plain C, written from documents 01 and 02 and their readings alone, so that the proved
+ * library can be held against it. Numbers and structs of the caller; nothing is allocated and nothing is kept outside them. A
  * call that may be refused gives the refusal's number of document 01, or 0, and after a refusal nothing behind a
  * pointer has changed. The caller answers for pointers; NULL with 0 is an empty table or slice. */
 #ifndef PLAIN_H

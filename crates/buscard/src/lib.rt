@@ -19,7 +19,7 @@ use words::Refusal;
 use words::Spacing;
 use words::StatusWord;
 
-// "overlapping (below 195), back to back, or separated (above 205)" (02 i)
+// "overlapping (below 195), back to back, or separated (above 205)" (02 i): 0, 1, 2 in this order (house)
 const OVERLAPPING: u8 = 0;
 
 const BACK_TO_BACK: u8 = 1;

@@ -21,7 +21,7 @@ use Rattle.terminal.specs.declared.states.Message.{Message}
 use Rattle.terminal.specs.declared.states.Terminal.{Terminal as State}
 use Rattle.terminal.specs.declared.events.Event.{Event}
 use Rattle.terminal.specs.declared.events.Event.the-variants.{Mark, Word}
-use Rattle.history.specs.States.{isNextWord, isBadWord, Fault, noFault, aFault, isFault, wordFault, faultOf, marksFault, MadeFaulty, ComesToFault, by-time, by-word}
+use Rattle.history.specs.States.{isNextWord, isBadWord, wordKind, EventFault, noFault, aFault, isFault, wordFault, faultOf, marksFault, MadeFaulty, ComesToFault, by-time, by-word}
 use Rattle.history.specs.Demands.{FaultExactly}
 use Rattle.history.proofs.Tests.{true≢, false≢, cond-cases, and-left, and-right, or-false, or-cases}
 use Rattle.history.proofs.Phases.{counting-under-way, late-under-way}
@@ -40,9 +40,9 @@ one-if false kind = refl
 
 by-word-if : (s : State) (e : Event) → isFault (wordFault s e) ≡ hasBadWord s e
 by-word-if s (Mark t) = refl
-by-word-if s (Word r) = one-if (isBadWord s r) (faultIn (s .message) r)
+by-word-if s (Word r) = one-if (isBadWord s r) (wordKind (s .message) r)
 
-either-if : (late : Bool) (f : Fault) (bad : Bool) → isFault f ≡ bad → isFault (cond late (aFault Separated) f) ≡ (late || bad)
+either-if : (late : Bool) (f : EventFault) (bad : Bool) → isFault f ≡ bad → isFault (cond late (aFault Separated) f) ≡ (late || bad)
 either-if true f bad h = refl
 either-if false f bad h = h
 
@@ -59,6 +59,13 @@ late-not-due m t late =
     let counts : isCounting (m .phase) ≡ true = search (and-left, late) in
     let awaits : ltb (m .got) (awaitedOf (m .command .0)) ≡ true = search (and-left, and-right, late) in
     rw (counts, lt-leb (awaitedOf (m .command .0)) (m .got) (ltb-true (m .got) (awaitedOf (m .command .0)) awaits))
+
+pub due-in-time : (m : Message) (t : ℕ) → isDue m t ≡ true → isLate m t ≡ false
+due-in-time m t due = go (isLate m t) refl
+  where
+    go : (b : Bool) → isLate m t ≡ b → b ≡ false
+    go true late = true≢ (sym due ∙ late-not-due m t late)
+    go false in-time = refl
 
 -- rule 1 leaves what is not due
 pub not-settled : (s : State) (t : ℕ) (transmit : List ℕ) → isDue (s .message) t ≡ false → rule1 s t transmit ≡ s

@@ -1,15 +1,15 @@
 -- A time mark directly before an event is not seen after it. Assumes nothing.
 use mathlib.Core.Path.{_≡_, refl, sym, ap, _∙_}
-use Prim.Native.Nat.{ℕ, _+_, _≤_, _<_}
-use mathlib.Core.Bool.{Bool, true, false, cond, _&&_}
+use Prim.Native.Nat.{ℕ, _+_, _≤_}
+use mathlib.Core.Bool.{Bool, true, false}
 use mathlib.Core.List.{List}
 use mathlib.Core.Logic.{_⊎_, inl, inr}
 use native.Mathlib.Omega.{arith}
 use lib.Dec.{eqb, ltb, leb}
 use lib.ListN.{length}
-use lib.Seq.{paste, length-paste}
+use lib.Seq.{length-paste}
 use borrow.Author.Tests.{leb-true, le-leb, ltb-true, lt-ltb, eqb-true, eq-eqb}
-use Rattle.words.specs.Words.{onClock, dueDistance, spacingMost, wordsOf}
+use Rattle.words.specs.Words.{dueDistance, spacingMost, wordsOf}
 use Rattle.words.specs.declared.times.Moment.{Moment}
 use Rattle.words.proofs.Truth.{and-both}
 use Rattle.words.proofs.Counts.{words-most}
@@ -18,21 +18,20 @@ use Rattle.terminal.specs.Messages.{isUnderWay, awaitsData, isWhole, isDue, isL
 use Rattle.terminal.specs.Settling.{settledStatus, modeWords, legalReply, replyOf, storesData, firstPlace, storedOf, isWithheld, noAnswer, answerOf, sendingOf}
 use Rattle.terminal.specs.Effects.{heldAfter}
 use Rattle.terminal.specs.Rules.{statusNow, replyNow, rule1Answer, rule1Receive, settledOf, rule1, faultyOf, rule2}
-use Rattle.terminal.specs.Events.{timeOf, isInRange, passedOf, takenOf, cutOf, happensOf, refusedOf, eventRefusal, eventOf, eventReceive}
+use Rattle.terminal.specs.Events.{timeOf, passedOf, takenOf, cutOf, happensOf, eventOf, eventReceive}
 use Rattle.terminal.specs.declared.states.SpacingFault.the-variants.{Separated}
 use Rattle.terminal.specs.declared.states.Message.{Message}
 use Rattle.terminal.specs.declared.states.Terminal.{Terminal as State}
-use Rattle.terminal.specs.declared.answers.Answer.{Answer}
 use Rattle.terminal.specs.declared.events.Event.{Event}
-use Rattle.terminal.specs.declared.events.Event.the-variants.{Mark, Word}
+use Rattle.terminal.specs.declared.events.Event.the-variants.{Mark}
 use Rattle.terminal.specs.declared.events.Happened.{Happened}
 use Rattle.history.specs.Calls.{isAccepted}
 use Rattle.history.specs.Demands.{Unseen, MarksDoNotMatter}
-use Rattle.history.proofs.Tests.{cond-cases, and-left, and-right}
+use Rattle.history.proofs.Tests.{cond-cases}
 use Rattle.history.proofs.Phases.{due-under-way}
-use Rattle.history.proofs.Steps.{accepted, accepted-table, refused, refused-table, shown, accepts, record-on-clock}
+use Rattle.history.proofs.Steps.{accepted, accepted-table, refused, refused-table, shown, accepts}
 use Rattle.history.proofs.Passing.{still, due-ends}
-use Rattle.history.proofs.Faults.{not-settled, late-not-due, late-faulty}
+use Rattle.history.proofs.Faults.{late-not-due, late-faulty}
 
 -- ---- what is due, or late, is so later too
 
@@ -51,17 +50,27 @@ late-later m t u later late =
     rw (parts .0, lt-ltb (m .last .0 + spacingMost) u (omega (arith, passed, later)))
 
 -- a message is due, or late, or neither
-pub by-time : {P : Type 0} (m : Message) (t : ℕ) → (isDue m t ≡ true → P) → (isLate m t ≡ true → P) → (isDue m t ≡ false → isLate m t ≡ false → P) → P
-by-time {P} m t settles faults waits = go (isDue m t) refl (isLate m t) refl
+pub due-or-late : {P : Type 0} (m : Message) (t : ℕ) → (isDue m t ≡ true → P) → (isLate m t ≡ true → P)
+    → (isDue m t ≡ false → isLate m t ≡ false → P)
+    → P
+due-or-late {P} m t settles faults waits = go (isDue m t) refl (isLate m t) refl
   where
     go : (a : Bool) → isDue m t ≡ a → (b : Bool) → isLate m t ≡ b → P
     go true due b late = settles due
     go false not-due true late = faults late
     go false not-due false in-time = waits not-due in-time
 
-none-due : (u : ℕ) → isDue noMessage u ≡ false
+-- where none is under way nothing is due or late, and time alone passes
+none-due : (m : Message) (u : ℕ) → m ≡ noMessage → isDue m u ≡ false
 unfolding isDue isWhole
-none-due u = refl
+none-due m u idle = ap (λ (x : Message). isDue x u) idle
+
+none-late : (m : Message) (u : ℕ) → m ≡ noMessage → isLate m u ≡ false
+unfolding isLate awaitsData
+none-late m u idle = ap (λ (x : Message). isLate x u) idle
+
+idle-passed : (x : State) (t u : ℕ) (transmit : List ℕ) → x .message ≡ noMessage → passedOf (atTime x t) u transmit ≡ atTime x u
+idle-passed x t u transmit idle = still (atTime x t) u transmit (none-due (x .message) u idle) (none-late (x .message) u idle)
 
 -- ---- rules 1 and 2, once and again
 
@@ -74,25 +83,25 @@ module _ (s : State) (transmit : List ℕ) where
   unfolding passedOf
   late-passed t late = let faulty = late-faulty s t transmit late in rw (faulty .0, faulty .1)
 
-  -- nothing is under way after the one or the other,
-  settled-idle : (t u : ℕ) → passedOf (atTime (settledOf s transmit) t) u transmit ≡ atTime (settledOf s transmit) u
-  unfolding settledOf isDue isWhole isLate awaitsData
-  settled-idle t u = still (atTime (settledOf s transmit) t) u transmit refl refl
+  -- nothing is under way after the one or the other
+  settled-idle : settledOf s transmit .message ≡ noMessage
+  unfolding settledOf
+  settled-idle = refl
 
-  faulty-idle : (t u : ℕ) → passedOf (atTime (faultyOf s Separated) t) u transmit ≡ atTime (faultyOf s Separated) u
-  unfolding faultyOf isDue isWhole isLate awaitsData
-  faulty-idle t u = still (atTime (faultyOf s Separated) t) u transmit refl refl
+  faulty-idle : faultyOf s Separated .message ≡ noMessage
+  unfolding faultyOf
+  faulty-idle = refl
 
   pub late-ends : (t : ℕ) → isLate (s .message) t ≡ true → passedOf s t transmit .message ≡ noMessage
-  unfolding faultyOf
-  late-ends t late = ap (λ (x : State). x .message) (late-passed t late)
+  late-ends t late = ap (λ (x : State). x .message) (late-passed t late) ∙ faulty-idle
 
-  -- so that nothing is due
-  due-none : (t u : ℕ) → isDue (s .message) t ≡ true → isDue (passedOf s t transmit .message) u ≡ false
-  due-none t u due = ap (λ (m : Message). isDue m u) (due-ends s t transmit due) ∙ none-due u
-
-  late-none : (t u : ℕ) → isLate (s .message) t ≡ true → isDue (passedOf s t transmit .message) u ≡ false
-  late-none t u late = ap (λ (m : Message). isDue m u) (late-ends t late) ∙ none-due u
+  -- and none of what is under way after both is late
+  pub passed-in-time : (t : ℕ) → isLate (passedOf s t transmit .message) t ≡ false
+  passed-in-time t =
+      due-or-late (s .message) t
+      (λ due. none-late _ t (due-ends s t transmit due))
+      (λ late. none-late _ t (late-ends t late))
+      (λ not-due in-time. ap (λ (x : State). isLate (x .message) t) (still s t transmit not-due in-time) ∙ in-time)
 
   -- what they do does not look at the time of the last event
   settled-same : (t u : ℕ) → atTime (settledOf (atTime s t) transmit) u ≡ atTime (settledOf s transmit) u
@@ -106,7 +115,7 @@ module _ (s : State) (transmit : List ℕ) where
 module _ (s : State) (transmit : List ℕ) where
   again : (t u : ℕ) → passedOf (atTime s t) u transmit ≡ passedOf s u transmit
   again t u =
-      by-time (s .message) u
+      due-or-late (s .message) u
       (λ due. due-passed (atTime s t) transmit u due ∙ settled-same s transmit t u ∙ sym (due-passed s transmit u due))
       (λ late. late-passed (atTime s t) transmit u late ∙ faulty-same s transmit t u ∙ sym (late-passed s transmit u late))
       (λ not-due in-time. still (atTime s t) u transmit not-due in-time ∙ sym (still s u transmit not-due in-time))
@@ -117,12 +126,12 @@ module _ (s : State) (transmit : List ℕ) (t u : ℕ) (later : t ≤ u) where
 
   passed-twice : passedOf (passedOf s t transmit) u transmit ≡ passedOf s u transmit
   passed-twice =
-      by-time (s .message) t
+      due-or-late (s .message) t
       (λ due.
-      ap (λ (x : State). passedOf x u transmit) (due-passed s transmit t due) ∙ settled-idle s transmit t u
+      ap (λ (x : State). passedOf x u transmit) (due-passed s transmit t due) ∙ idle-passed (settledOf s transmit) t u transmit (settled-idle s transmit)
       ∙ sym (due-passed s transmit u (due-later (s .message) t u later due)))
       (λ late.
-      ap (λ (x : State). passedOf x u transmit) (late-passed s transmit t late) ∙ faulty-idle s transmit t u
+      ap (λ (x : State). passedOf x u transmit) (late-passed s transmit t late) ∙ idle-passed (faultyOf s Separated) t u transmit (faulty-idle s transmit)
       ∙ sym (late-passed s transmit u (late-later (s .message) t u later late)))
       (λ not-due in-time. ap (λ (x : State). passedOf x u transmit) (still s t transmit not-due in-time) ∙ again s transmit t u)
 
@@ -151,10 +160,10 @@ module _ (s : State) (transmit : List ℕ) (t u : ℕ) (later : t ≤ u) where
 
   once : Once
   once =
-      by-time (s .message) t
-      (λ due. inr (given t due ∙ sym (given u (due-later (s .message) t u later due)), silent passed u (due-none s transmit t u due)))
+      due-or-late (s .message) t
+      (λ due. inr (given t due ∙ sym (given u (due-later (s .message) t u later due)), silent passed u (none-due _ u (due-ends s t transmit due))))
       (λ late.
-      inl (silent s t (late-not-due (s .message) t late), silent passed u (late-none s transmit t u late) ∙ sym (silent s u (late-silent late))))
+      inl (silent s t (late-not-due (s .message) t late), silent passed u (none-due _ u (late-ends s transmit t late)) ∙ sym (silent s u (late-silent late))))
       (λ not-due in-time.
       inl (silent s t not-due, ap (λ (x : State). rule1Answer x u transmit) (still s t transmit not-due in-time) ∙ same-answer))
 
@@ -175,11 +184,11 @@ module _ (s : State) (transmit : List ℕ) (t u : ℕ) (later : t ≤ u) where
 
   table-twice : (receive : List ℕ) → rule1Receive (passedOf s t transmit) u (rule1Receive s t receive) ≡ rule1Receive s u receive
   table-twice receive =
-      by-time (s .message) t
+      due-or-late (s .message) t
       (λ due.
-      unwritten passed u _ (due-none s transmit t u due) ∙ written receive t due ∙ sym (written receive u (due-later (s .message) t u later due)))
+      unwritten passed u _ (none-due _ u (due-ends s t transmit due)) ∙ written receive t due ∙ sym (written receive u (due-later (s .message) t u later due)))
       (λ late.
-      unwritten passed u _ (late-none s transmit t u late) ∙ unwritten s t receive (late-not-due (s .message) t late)
+      unwritten passed u _ (none-due _ u (late-ends s transmit t late)) ∙ unwritten s t receive (late-not-due (s .message) t late)
       ∙ sym (unwritten s u receive (late-silent late)))
       (λ not-due in-time.
       ap (rule1Receive passed u) (unwritten s t receive not-due)
@@ -239,9 +248,10 @@ marks-do-not-matter s places t e receive transmit ok later = go (isAccepted s (M
         let x : State = passedOf s (t .0) transmit in
         let after : List ℕ = rule1Receive s (t .0) receive in
         let then = then-accepted s t e receive transmit places ok later in
-        rw (accepted s (Mark t) receive transmit mark, accepted-table s (Mark t) receive transmit mark, accepted s e receive transmit ok, accepted-table s e receive transmit ok, accepted x e after transmit then, accepted-table x e after transmit then)
+        rw
+        (accepted s (Mark t) receive transmit mark, accepted-table s (Mark t) receive transmit mark, accepted s e receive transmit ok, accepted-table s e receive transmit ok, accepted x e after transmit then, accepted-table x e after transmit then)
         (record {
-          taken = refl;
+          accepted = refl;
           terminal = ap (λ (y : State). takenOf y e) (passed-twice s transmit (t .0) (timeOf e) later);
           receive = table-twice s transmit (t .0) (timeOf e) later receive;
           cut = ap (λ (y : State). cutOf y e) (passed-twice s transmit (t .0) (timeOf e) later);
@@ -249,4 +259,4 @@ marks-do-not-matter s places t e receive transmit ok later = go (isAccepted s (M
         })
     go false bad =
         rw (refused s (Mark t) receive transmit bad, refused-table s (Mark t) receive transmit bad, accepted s e receive transmit ok)
-        (record { taken = refl; terminal = refl; receive = refl; cut = refl; once = inl (refl, refl) })
+        (record { accepted = refl; terminal = refl; receive = refl; cut = refl; once = inl (refl, refl) })

@@ -1,17 +1,18 @@
--- The kind of the last spacing fault is that which the calls tell. Assumes nothing.
+-- The kind of the last spacing fault is that which the calls set. Assumes nothing.
 use mathlib.Core.Path.{_≡_, refl, sym, ap, _∙_}
-use Prim.Native.Nat.{ℕ}
+use Prim.Native.Nat.{ℕ, _+_, _≤_}
 use mathlib.Core.Bool.{Bool, true, false, cond, _&&_}
 use mathlib.Core.List.{List, [], _∷_}
-use lib.Dec.{eqb}
-use borrow.Author.Tests.{eqb-true, not-true}
-use Rattle.words.specs.Words.{codeOf, isMode}
+use native.Mathlib.Omega.{arith}
+use lib.Dec.{eqb, ltb}
+use borrow.Author.Tests.{eqb-true, ltb-false, le-leb}
+use Rattle.words.specs.Words.{sinceOf, spacingLeast, spacingMost, spacingOf, codeOf, isMode}
 use Rattle.records.specs.declared.forms.WordRecord.{WordRecord}
-use Rattle.terminal.specs.States.{withStatus, noMessage, withMessage, spacingIn, atTime}
+use Rattle.terminal.specs.States.{withStatus, noMessage, spacingIn}
 use Rattle.terminal.specs.Commands.{isOwn, isExempt, isLegal}
-use Rattle.terminal.specs.Messages.{isUnderWay, isOn, awaitsData, isDue, isLate, isNextData, isSecond, isStatusFrom}
+use Rattle.terminal.specs.Messages.{isUnderWay, isOn, awaitsData, isDue, isLate, isNextData, isSecond}
 use Rattle.terminal.specs.Effects.{effectOf, heldAfter}
-use Rattle.terminal.specs.Rules.{settledOf, markedOf, keptBy, faultyOf, rule3, notedStatus, notedCommand, rule4, faultIn, nextData, nextWord, rule5, rules3to6}
+use Rattle.terminal.specs.Rules.{settledOf, markedOf, keptBy, faultyOf, rule3, notedStatus, notedCommand, rule4, faultBy, faultIn, nextData, nextWord, rule5, rules3to6}
 use Rattle.terminal.specs.Events.{timeOf, setUpOf, passedOf, takenOf}
 use Rattle.terminal.specs.declared.states.Own.{Own}
 use Rattle.terminal.specs.declared.states.SpacingFault.{SpacingFault}
@@ -26,15 +27,15 @@ use Rattle.terminal.specs.declared.events.Event.the-variants.{Mark, Word}
 use Rattle.terminal.specs.declared.events.Happened.{Happened}
 use Rattle.terminal.specs.declared.setups.SetUp.{SetUp}
 use Rattle.history.specs.Calls.{Call, setUp, event, host, clearSelftest, restart, isAccepted, isSetUp, step, run}
-use Rattle.history.specs.States.{isUnderWayOn, isNextWord, isBadWord, noFault, aFault, wordFault, faultOf}
+use Rattle.history.specs.States.{isUnderWayOn, isNextWord, isBadWord, noFault, aFault, wordKind, wordFault}
 use Rattle.history.specs.Kinds.{Change, leaves, sets, byFault, isReset, byEvent, changeBy, afterChange, lastKind, AllLeaveKind}
 use Rattle.history.specs.Demands.{SpacingKept, SpacingKeptAfterAnyPast, SpacingLatest, KindAsAMark}
 use Rattle.history.proofs.Tests.{true≢, false≢, cond-cases, or-cases}
 use Rattle.history.proofs.Steps.{stepped, refused-stays}
 use Rattle.history.proofs.Passing.{still, due-ends}
 use Rattle.history.proofs.Marks.{as-a-mark}
-use Rattle.history.proofs.Faults.{bad-faulty, bad-under-way, late-not-due}
-use Rattle.history.proofs.Polling.{by-time, due-passed, late-passed, late-ends}
+use Rattle.history.proofs.Faults.{late-not-due, due-in-time, bad-faulty, bad-under-way}
+use Rattle.history.proofs.Polling.{due-or-late, due-passed, late-passed, late-ends, passed-in-time}
 
 abbrev kindIn : State → SpacingFault
 kindIn s = spacingIn (s .held)
@@ -138,34 +139,50 @@ good-kind s r good = go (rule3 s r) refl (isOwn (s .setup .own) r) refl (isUnder
     go false quiet false foreign true here true next = rw (quiet, foreign, here) (next-kind (s .message .phase) s r next)
     go false quiet false foreign true here false bad = true≢ (rw (quiet, foreign, here, bad) at good)
 
-word-kind : (s : State) (r : WordRecord) → kindIn (rules3to6 s r) ≡ afterChange (kindIn s) (byFault (wordFault s (Word r)))
-word-kind s r = go (isBadWord s r) refl
+-- a word that is not late is overlapping or back to back
+early-or-spaced : (last t : ℕ) → t ≤ last + spacingMost → faultBy (spacingOf last t) ≡ cond (ltb (sinceOf last t) spacingLeast) Overlapping None
+unfolding spacingOf
+early-or-spaced last t in-time = go (ltb (sinceOf last t) spacingLeast) refl
   where
-    go : (b : Bool) → isBadWord s r ≡ b → kindIn (rules3to6 s r) ≡ afterChange (kindIn s) (byFault (cond b (aFault (faultIn (s .message) r)) noFault))
-    go true bad = ap kindIn (bad-faulty s r bad) ∙ faulty-kind s (faultIn (s .message) r)
+    go : (b : Bool) → ltb (sinceOf last t) spacingLeast ≡ b → faultBy (spacingOf last t) ≡ cond b Overlapping None
+    go true early = rw early refl
+    go false not-early = rw (not-early, le-leb (sinceOf last t) spacingMost (omega (arith, in-time))) refl
+
+-- the kind of a bad word is the terminal's own, where nothing is late
+kinds-agree : (m : Message) (r : WordRecord) → isLate m (r .time .0) ≡ false → faultIn m r ≡ wordKind m r
+unfolding faultIn isLate
+kinds-agree m r in-time = go (awaitsData m) refl
+  where
+    go : (b : Bool) → awaitsData m ≡ b → faultIn m r ≡ wordKind m r
+    go true awaits =
+        let late : ltb (m .last .0 + spacingMost) (r .time .0) ≡ false = rw awaits at in-time in
+        rw awaits (early-or-spaced (m .last .0) (r .time .0) (ltb-false (m .last .0 + spacingMost) (r .time .0) late))
+    go false idle = rw idle refl
+
+word-kind : (s : State) (r : WordRecord) → isLate (s .message) (r .time .0) ≡ false
+    → kindIn (rules3to6 s r) ≡ afterChange (kindIn s) (byFault (wordFault s (Word r)))
+word-kind s r in-time = go (isBadWord s r) refl
+  where
+    go : (b : Bool) → isBadWord s r ≡ b → kindIn (rules3to6 s r) ≡ afterChange (kindIn s) (byFault (cond b (aFault (wordKind (s .message) r)) noFault))
+    go true bad =
+        ap kindIn (bad-faulty s r bad) ∙ faulty-kind s (faultIn (s .message) r)
+        ∙ ap (λ (kind : SpacingFault). afterChange (kindIn s) (byFault (aFault kind))) (kinds-agree (s .message) r in-time)
     go false good = good-kind s r good
 
-taken-kind : (s : State) (e : Event) → kindIn (takenOf s e) ≡ afterChange (kindIn s) (byFault (wordFault s e))
-taken-kind s (Mark t) = refl
-taken-kind s (Word r) = word-kind s r
+taken-kind : (s : State) (e : Event) → isLate (s .message) (timeOf e) ≡ false → kindIn (takenOf s e) ≡ afterChange (kindIn s) (byFault (wordFault s e))
+taken-kind s (Mark t) in-time = refl
+taken-kind s (Word r) in-time = word-kind s r in-time
 
 -- where no message is under way no word makes one faulty
 idle-sound : (s : State) (e : Event) → s .message ≡ noMessage → wordFault s e ≡ noFault
 idle-sound s (Mark t) idle = refl
 idle-sound s (Word r) idle = go (isBadWord s r) refl
   where
-    go : (b : Bool) → isBadWord s r ≡ b → cond b (aFault (faultIn (s .message) r)) noFault ≡ noFault
+    go : (b : Bool) → isBadWord s r ≡ b → cond b (aFault (wordKind (s .message) r)) noFault ≡ noFault
     go true bad = false≢ (ap (λ (m : Message). isUnderWay (m .phase)) (sym idle) ∙ bad-under-way s r bad)
     go false good = refl
 
 -- ---- an event
-
-due-in-time : (m : Message) (t : ℕ) → isDue m t ≡ true → isLate m t ≡ false
-due-in-time m t due = go (isLate m t) refl
-  where
-    go : (b : Bool) → isLate m t ≡ b → b ≡ false
-    go true late = true≢ (sym due ∙ late-not-due m t late)
-    go false in-time = refl
 
 reset-if : (b : Bool) (kind : SpacingFault) → afterChange kind (cond b (sets None) leaves) ≡ cond b None kind
 reset-if true kind = refl
@@ -173,7 +190,7 @@ reset-if false kind = refl
 
 event-kind : (s : State) (e : Event) (transmit : List ℕ)
     → kindIn (takenOf (passedOf s (timeOf e) transmit) e) ≡ afterChange (kindIn s) (byEvent s e transmit)
-event-kind s e transmit = taken-kind (passedOf s (timeOf e) transmit) e ∙ by-time (s .message) (timeOf e) settles faults waits
+event-kind s e transmit = taken-kind (passedOf s (timeOf e) transmit) e (passed-in-time s transmit (timeOf e)) ∙ due-or-late (s .message) (timeOf e) settles faults waits
   where
     Fact : Type 0
     Fact = afterChange (kindIn (passedOf s (timeOf e) transmit)) (byFault (wordFault (passedOf s (timeOf e) transmit) e))

@@ -134,12 +134,13 @@ AsAMarkOnceSettled =
     → isUnderWayOn (passedOf s (r .time .0) transmit .message) (r .bus) ≡ false
     → SameAsMark s r receive transmit
 
--- ==== marks-do-not-matter: the host may ask the time as often as it likes, and nobody sees it
+-- ==== marks-do-not-matter: a time mark directly before an event is not seen after it, and so neither in the kind of the last spacing fault (02 i;
+-- DECISIONS 73)
 
--- What a mark gave, and the event then, with the receive table after it, against the event alone with its table: the event is taken, the terminal, the
--- receive table and what was cut are the same after it, and the answer is carried once, by one of the two.
+-- What a mark gave, and the event then, with the receive table after it, against the event alone with its table: the event is accepted, terminal,
+-- receive table and what was cut are the same after it, and the answer, where there is one, is carried once, by one of the two.
 pub record Unseen (mark then : Happened) (table : List ℕ) (alone : Happened) (tableAlone : List ℕ) : Type 0 where
-  pub taken : then .refusal .0 ≡ notRefused
+  pub accepted : then .refusal .0 ≡ notRefused
   pub terminal : then .terminal ≡ alone .terminal
   pub receive : table ≡ tableAlone
   pub cut : then .cut ≡ alone .cut
@@ -184,7 +185,7 @@ SpacingLatest =
     → (ks : List Call) → AllLeaveKind (step s k) ks
     → spacingIn (run (step s k) ks .held) ≡ kind
 
--- kind-as-a-mark: with `as-a-mark`, a record that is no own command, on a bus where no message is under way, does to the kind what a time mark of its
+-- kind-as-a-mark: so, by `as-a-mark`, a record that is no own command, on a bus where no message is under way, does to the kind what a time mark of its
 -- moment does
 abbrev pub KindAsAMark : Type 0
 KindAsAMark =

@@ -1,4 +1,4 @@
--- The kind of the last spacing fault, told by the calls (02 i). Assumes nothing.
+-- The kind of the last spacing fault, told call by call, each of the terminal that it meets (02 i). Assumes nothing.
 use mathlib.Core.Path.{_≡_}
 use Prim.Native.Nat.{ℕ}
 use mathlib.Core.Bool.{Bool, cond, _&&_}
@@ -13,15 +13,15 @@ use Rattle.terminal.specs.declared.states.SpacingFault.the-variants.{None, Over
 use Rattle.terminal.specs.declared.states.Terminal.{Terminal as State}
 use Rattle.terminal.specs.declared.events.Event.{Event}
 use Rattle.history.specs.Calls.{Call, setUp, event, host, clearSelftest, restart, isAccepted, isSetUp, step}
-use Rattle.history.specs.States.{Fault, noFault, aFault, faultOf}
+use Rattle.history.specs.States.{EventFault, noFault, aFault, faultOf}
 
 -- What a call does to the kind: nothing, or it sets it, to none where it makes the terminal fresh.
 pub data Change : Type 0 where
   leaves : Change
   sets : SpacingFault → Change
 
--- a fault that is no spacing fault does nothing to it
-abbrev pub byFault : Fault → Change
+-- "keeps the kind of its last spacing fault" (02 i): a fault of another cause leaves it (DECISIONS 74)
+abbrev pub byFault : EventFault → Change
 byFault noFault = leaves
 byFault (aFault None) = leaves
 byFault (aFault Overlapping) = sets Overlapping
@@ -35,6 +35,7 @@ isReset s = isLegal (s .setup) (s .message .command .0) && isMode (s .message .c
 abbrev pub byEvent : State → Event → List ℕ → Change
 byEvent s e transmit = cond (isDue (s .message) (timeOf e) && isReset s) (sets None) (byFault (faultOf s e transmit))
 
+-- "(fresh: none)" (02 i): a set-up, a restart and a settled legal code 8 (DECISIONS 74)
 abbrev pub changeBy : State → Call → Change
 changeBy s (setUp address receive transmit) = cond (isSetUp address receive transmit) (sets None) leaves
 changeBy s (event e receive transmit) = cond (isAccepted s e receive transmit) (byEvent s e transmit) leaves

@@ -3,13 +3,13 @@ use mathlib.Core.Path.{_≡_}
 use Prim.Native.Nat.{ℕ, _≤_}
 use mathlib.Core.Bool.{Bool, true, false, not, cond, _&&_, _||_}
 use mathlib.Core.List.{List}
-use lib.Dec.{eqb}
+use lib.Dec.{eqb, ltb}
 use lib.ListN.{length}
-use Rattle.words.specs.Words.{onClock, addressOf, isBroadcast, isTransmit, isMode, hasNoOther, awaitedOf}
+use Rattle.words.specs.Words.{onClock, sinceOf, spacingLeast, addressOf, isBroadcast, isTransmit, isMode, hasNoOther, awaitedOf}
 use Rattle.records.specs.declared.forms.WordRecord.{WordRecord}
 use Rattle.terminal.specs.Commands.{isOwn, isExempt}
 use Rattle.terminal.specs.Messages.{isUnderWay, awaitsData, isLate, isNextData, isSecond, isStatusFrom}
-use Rattle.terminal.specs.Rules.{rule1, faultyOf, rule2, rule3, faultIn}
+use Rattle.terminal.specs.Rules.{rule1, faultyOf, rule2, rule3}
 use Rattle.terminal.specs.Events.{timeOf, passedOf, takenOf}
 use Rattle.terminal.specs.declared.states.Own.{Own}
 use Rattle.terminal.specs.declared.states.SpacingFault.{SpacingFault}
@@ -44,21 +44,26 @@ isBadWord s r =
 -- ---- the fault that an event shows
 
 -- none, or one and its kind where it is a spacing fault (02 i)
-pub data Fault : Type 0 where
-  noFault : Fault
-  aFault : SpacingFault → Fault
+pub data EventFault : Type 0 where
+  noFault : EventFault
+  aFault : SpacingFault → EventFault
 
-abbrev pub isFault : Fault → Bool
+abbrev pub isFault : EventFault → Bool
 isFault noFault = false
 isFault (aFault kind) = true
 
+-- The kind of a bad word, said apart from the terminal's own (`faultIn`): "overlapping (below 195)" where a data word is awaited; above 205 rule 2 was
+-- first (02 i; DECISIONS 74).
+abbrev pub wordKind : Message → WordRecord → SpacingFault
+wordKind m r = cond (awaitsData m && ltb (sinceOf (m .last .0) (r .time .0)) spacingLeast) Overlapping None
+
 -- by its word, rule 5
-abbrev pub wordFault : State → Event → Fault
+abbrev pub wordFault : State → Event → EventFault
 wordFault s (Mark t) = noFault
-wordFault s (Word r) = cond (isBadWord s r) (aFault (faultIn (s .message) r)) noFault
+wordFault s (Word r) = cond (isBadWord s r) (aFault (wordKind (s .message) r)) noFault
 
 -- by its time, rule 2, or by its word
-abbrev pub faultOf : State → Event → List ℕ → Fault
+abbrev pub faultOf : State → Event → List ℕ → EventFault
 faultOf s e transmit = cond (isLate (s .message) (timeOf e)) (aFault Separated) (wordFault (passedOf s (timeOf e) transmit) e)
 
 -- An event marks it; "(not for the two exempt commands)".

@@ -68,7 +68,7 @@ pub(crate) fn add_answer(sum: u64, answer: Answer, cut: bool) -> u64 {
 }
 
 // "16 last spacing fault overlapping + 32 last spacing fault separated"
-fn spacing(fault: SpacingFault) -> u8 {
+fn spacing_bits(fault: SpacingFault) -> u8 {
     match fault {
         SpacingFault::None => 0,
         SpacingFault::Overlapping => 16,
@@ -82,7 +82,7 @@ fn flags(terminal: Terminal) -> u8 {
         | bit(terminal.is_shut_down(0), 2)
         | bit(terminal.is_shut_down(1), 4)
         | bit(terminal.is_inhibited(), 8)
-        | spacing(terminal.last_spacing_fault())
+        | spacing_bits(terminal.last_spacing_fault())
 }
 
 fn add_next(sum: u64, next: NextMoment) -> u64 {

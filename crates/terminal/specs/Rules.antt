@@ -61,6 +61,7 @@ keptBy h None = h
 keptBy h Overlapping = withSpacing h true false
 keptBy h Separated = withSpacing h false true
 
+-- Its mark, its kind, and no message.
 unfoldable pub faultyOf : State → SpacingFault → State
 faultyOf s fault = withMessage (withHeld s (keptBy (markedOf (s .setup .own) (s .held) (s .message .command .0)) fault)) noMessage
 

@@ -87,7 +87,7 @@ impl Message {
     }
 
     // Says whether a word of that time is "195 to 205 after the one before".
-    pub(crate) fn is_spaced(self, time: Moment) -> bool
+    fn is_spaced(self, time: Moment) -> bool
         ensures answer { λ r. ⌜ r ≡ isSpaced (self .last .0) (time .0) ⌝ }
     {
         let past = time.since(self.last);

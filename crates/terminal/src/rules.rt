@@ -46,7 +46,7 @@ pub enum Meaning {
     Status,
     // the next data word
     DataWord,
-    // not the next word of the message under way
+    // not the next word of the message under way: a fault of that spacing or, with none, of another cause
     Faulty(SpacingFault),
     // any other record, and a time mark
     Nothing,
@@ -113,6 +113,7 @@ impl Work {
         }
     }
 
+    // Every fault of this rule is separated (02 i; DECISIONS 73).
     fn rule2(self, own: Own, time: Moment) -> Work
         ensures work { λ r. ⌜ r ≡ workOf (rule2 (bareOf own self) (time .0)) ⌝ }
     {
@@ -231,7 +232,7 @@ impl Work {
 // come."
 impl SpacingFault {
     // Gives the fault that a spacing is.
-    fn by(spacing: Spacing) -> SpacingFault
+    fn of_spacing(spacing: Spacing) -> SpacingFault
         ensures fault { λ r. ⌜ r ≡ faultBy spacing ⌝ }
     {
         match spacing {
@@ -244,12 +245,12 @@ impl SpacingFault {
 
 impl Message {
     // Gives the spacing fault of a record that is not the next word: spacing is asked while a data word is awaited, whatever else is wrong.
-    fn fault(self, heard: WordRecord) -> SpacingFault
+    fn spacing_fault(self, heard: WordRecord) -> SpacingFault
         ensures fault { λ r. ⌜ r ≡ faultIn self heard ⌝ }
     {
         if self.awaits_data() {
             let last = self.last;
-            return SpacingFault::by(words::spacing_between(last, heard.time));
+            return SpacingFault::of_spacing(words::spacing_between(last, heard.time));
         }
         SpacingFault::None
     }
@@ -261,7 +262,7 @@ impl Message {
         if self.awaits_data() & self.is_next_data(heard) {
             return Meaning::DataWord;
         }
-        let fault = self.fault(heard);
+        let fault = self.spacing_fault(heard);
         Meaning::Faulty(fault)
     }
 
@@ -284,7 +285,7 @@ impl Message {
                 if is_status_from(address, heard) {
                     Meaning::Status
                 } else {
-                    Meaning::Faulty(self.fault(heard))
+                    Meaning::Faulty(self.spacing_fault(heard))
                 }
             }
         }

@@ -115,7 +115,7 @@ impl Spacing {
 }
 
 // Gives how a word stands to the one before it, and how many ticks after it comes: 0 where it is not later, which overlaps. Every spacing test of the
-// card is this one or keeps its promise.
+// card asks this one, or promises `isSpaced`: that it answers back to back.
 // Tables: none. Refusals: none.
 pub fn spacing_between(before: Moment, after: Moment) -> Spacing
     ensures spacing { λ r. ⌜ r ≡ spacingOf (before .0) (after .0) ⌝ }

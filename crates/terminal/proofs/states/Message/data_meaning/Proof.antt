@@ -14,14 +14,14 @@ returns : tie.Need-returns
 unfolding dataMeaning
 returns c = rw (← c .before .before .awaits-data .ensures, ← c .before .is-next-data .ensures, c .if1 .taken)
 
-fault-requires : tie.Need-fault-requires
-fault-requires c κs = search needs
+spacing-fault-requires : tie.Need-spacing-fault-requires
+spacing-fault-requires c κs = search needs
 
 returns-2 : tie.Need-returns-2
 unfolding dataMeaning
-returns-2 c = rw (← c .before .before .before .awaits-data .ensures, ← c .before .before .is-next-data .ensures, c .before .if1 .left, c .fault .ensures)
+returns-2 c = rw (← c .before .before .before .awaits-data .ensures, ← c .before .before .is-next-data .ensures, c .before .if1 .left, c .spacing-fault .ensures)
 
 pub data-meaning-spec : {M : Type 1} → statement M
 data-meaning-spec =
     tie.close
-    (tie.spec awaits-data-requires is-next-data-requires returns fault-requires returns-2)
+    (tie.spec awaits-data-requires is-next-data-requires returns spacing-fault-requires returns-2)

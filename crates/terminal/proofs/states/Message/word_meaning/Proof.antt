@@ -31,8 +31,8 @@ enum-known-phase c = search needs
 is-status-from-requires : tie.Need-is-status-from-requires
 is-status-from-requires c κs = search needs
 
-fault-requires : tie.Need-fault-requires
-fault-requires c κs = search needs
+spacing-fault-requires : tie.Need-spacing-fault-requires
+spacing-fault-requires c κs = search needs
 
 returns : tie.Need-returns
 unfolding wordMeaning
@@ -56,7 +56,7 @@ returns-5 c = at-phase _ _ _ (Pledged _) _ (c .before .before .before .phase .gi
 
 returns-6 : tie.Need-returns-6
 unfolding wordMeaning
-returns-6 c = at-phase _ _ _ (Pledged _) _ (c .before .before .before .before .phase .given .1) (rw (sym (c .before .before .is-status-from .ensures) ∙ c .before .if2 .left, c .fault .ensures) refl)
+returns-6 c = at-phase _ _ _ (Pledged _) _ (c .before .before .before .before .phase .given .1) (rw (sym (c .before .before .is-status-from .ensures) ∙ c .before .if2 .left, c .spacing-fault .ensures) refl)
 
 pub word-meaning-spec : {M : Type 1} → statement M
 word-meaning-spec =
@@ -70,7 +70,7 @@ word-meaning-spec =
     data-meaning-requires-2
     enum-known-phase
     is-status-from-requires
-    fault-requires
+    spacing-fault-requires
     returns
     returns-2
     returns-3
