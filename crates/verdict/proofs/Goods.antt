@@ -7,7 +7,7 @@ use native.Mathlib.Omega.{arith}
 use lib.Dec.{eqb, ltb, leb}
 use lib.ListN.{replicate}
 use borrow.Author.Tests.{ltb-false, le-ltb, eqb-true, eqb-false, eq-eqb, not-false}
-use Rattle.words.specs.Words.{isBroadcast, noResponseDistance, spacingMost, sinceOf, gapOf, isSpaced, spacingOf, isBackToBack, addressOf, hasFlag, isValid, commandSync, dataSync}
+use Rattle.words.specs.Words.{isBroadcast, noResponseDistance, spacingMost, sinceOf, gapOf, spacingOf, isBackToBack, addressOf, hasFlag, isValid, commandSync, dataSync}
 use Rattle.words.specs.declared.times.Spacing.{Spacing}
 use Rattle.words.specs.declared.times.Spacing.the-variants.{Overlapping, BackToBack, Separated}
 use Rattle.words.specs.declared.statuses.Flag.the-variants.{MessageError, Busy}
