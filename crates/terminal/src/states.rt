@@ -1,10 +1,11 @@
 // The state of the terminal, by who changes it (01 The terminal). Fields stand from wide to narrow, so that no holes lie between
-// them. A set-up, what the host sets, what is held, a message and a terminal are written out whole in one place each, here. Meaning: specs/States.antt. Refusals: none.
+// them. A set-up, what the host sets, a message and a terminal are written out whole in one place each, here, and what is held in two. Meaning:
+// specs/States.antt. Refusals: none.
 ghost use mathlib.Core.Path.{_≡_};
 ghost use mathlib.Core.List.{[], _∷_};
 ghost use Prim.Native.Nat.{_<_};
 ghost use Rattle.words.specs.Words.{dueDistance, spacingLeast, spacingMost};
-ghost use Rattle.terminal.specs.States.{ownOf, setupOf, freshHost, heldOf, freshHeld, withStatus, withCommand, withSyncWord, withSelftest, withInhibit, withShut, withSpacing, messageOf, noMessage, atPhase, withWord, noSending, freshOf};
+ghost use Rattle.terminal.specs.States.{ownOf, setupOf, freshHost, freshHeld, withStatus, withCommand, withSyncWord, withSelftest, withInhibit, withShut, withSpacing, messageOf, noMessage, atPhase, withWord, noSending, freshOf};
 ghost use Rattle.terminal.specs.Works.{workOf, messageIn, withWork};
 use crate::tables::BUSES;
 use crate::tables::with_word;
@@ -137,46 +138,20 @@ impl Host {
 }
 
 impl Held {
-    // What is held, of these parts.
-    fn build(
-        status: StatusWord,
-        command: CommandWord,
-        syncword: u16,
-        selftest: bool,
-        inhibit: bool,
-        shut: [bool; 2],
-        overlapping: bool,
-        separated: bool,
-    ) -> Held
-        ensures held { λ r. ⌜ r ≡ heldOf status command syncword selftest inhibit shut overlapping separated ⌝ }
-    {
-        Held {
-            status,
-            command,
-            syncword,
-            selftest,
-            inhibit,
-            shut,
-            overlapping,
-            separated,
-        }
-    }
-
     // "Fresh: transmitters on, nothing inhibited, status the own address, last command 0, sync word 0, no self-test request", no spacing fault
     pub(crate) fn fresh(own: Own) -> Held
         ensures held { λ r. ⌜ r ≡ freshHeld own ⌝ }
     {
-        let status = StatusWord::build(own.address, 0);
-        Held::build(
-            status,
-            CommandWord(0),
-            0,
-            false,
-            false,
-            [false; 2],
-            false,
-            false,
-        )
+        Held {
+            status: StatusWord::build(own.address, 0),
+            command: CommandWord(0),
+            syncword: 0,
+            selftest: false,
+            inhibit: false,
+            shut: [false; 2],
+            overlapping: false,
+            separated: false,
+        }
     }
 
     // What is held with another stored status.
@@ -236,23 +211,23 @@ impl Held {
         next
     }
 
-    // With another last spacing fault. Built anew: with two assignments the compiler copies the masks with every event.
+    // With another last spacing fault. Written out whole a second time: with two assignments the compiler copies the masks with every event.
     pub(crate) fn with_spacing(self, overlapping: bool, separated: bool) -> Held
         ensures held { λ r. ⌜ r ≡ withSpacing self overlapping separated ⌝ }
     {
         let status = self.status;
         let command = self.command;
         let shut = self.shut;
-        Held::build(
+        Held {
             status,
             command,
-            self.syncword,
-            self.selftest,
-            self.inhibit,
+            syncword: self.syncword,
+            selftest: self.selftest,
+            inhibit: self.inhibit,
             shut,
             overlapping,
             separated,
-        )
+        }
     }
 }
 

@@ -7,11 +7,8 @@ use Rattle.terminal.proofs.states.Held.fresh.Tie as tie
 build-requires : tie.Need-build-requires
 build-requires c κs = search needs
 
-build-requires-2 : tie.Need-build-requires-2
-build-requires-2 c κs = search needs
-
 returns : tie.Need-returns
-returns c = rw (c .build2 .ensures, status-is _ _ (c .before .build .ensures))
+returns c = rw (status-is _ _ (c .build .ensures))
 
 pub fresh-spec : {M : Type 1} → statement M
-fresh-spec = tie.close (tie.spec build-requires build-requires-2 returns)
+fresh-spec = tie.close (tie.spec build-requires returns)
