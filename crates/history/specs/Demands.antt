@@ -1,7 +1,8 @@
--- THE FIRST FILE TO READ. Demand 3 of the user, clause by clause, and what stands beside it: no word on one bus wipes out a fault of the other, nor
--- anything else of the stored status; refusals change nothing, and what a refused set-up gives never answers; what an own command does to what is
--- under way; what can be reached, and what every answer's status has; histories that meet every premise. A statement is a type; its proof has the
--- name above it and stands in proofs/. `Calls`, `Courses`, `States`, `Witnesses` and `Faults` say the words. Assumes nothing.
+-- THE FIRST FILE TO READ. Demand 3 of the user, clause by clause, and what stands beside it: time marks before an event do not matter; the kind of the
+-- last spacing fault; no word on one bus wipes out a fault of the other, nor anything else of the stored status; refusals change nothing, and what a
+-- refused set-up gives never answers; what an own command does to what is under way; what can be reached, and what every answer's status has; histories
+-- that meet every premise. A statement is a type; its proof has the name above it and stands in proofs/. `Calls`, `Courses`, `States`, `Kinds`,
+-- `Witnesses` and `Faults` say the words. Assumes nothing.
 use mathlib.Core.Path.{_≡_}
 use Prim.Native.Nat.{ℕ, _+_, _≤_}
 use mathlib.Core.Bool.{true, false, cond, _&&_}

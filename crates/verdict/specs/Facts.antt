@@ -65,8 +65,8 @@ factOf Nothing last r = leftOver
 
 -- ---- where no record is left
 
--- "1 no response if Q is at least 320 past the last word .., else 2 still waiting"; "missing with Q more than 205 past it: 10; missing otherwise: 2", "10 separated or missing" (02 i);
--- "Then 2 if Q is below the last word plus 220, else 0 good."
+-- "1 no response if Q is at least 320 past the last word .., else 2 still waiting"; "missing with Q more than 205 past it: 10; missing otherwise: 2",
+-- "10 separated or missing" (02 i); "Then 2 if Q is below the last word plus 220, else 0 good."
 unfoldable pub endOf : Expected → ℕ → ℕ → ℕ
 endOf (Status address unjudged) last until = cond (leb noResponseDistance (sinceOf last until)) noResponse waiting
 endOf Data last until = cond (ltb spacingMost (sinceOf last until)) separated waiting

@@ -52,8 +52,8 @@ spacingMost = 205
 unfoldable pub isSpaced : ℕ → ℕ → Bool
 isSpaced before after = leb spacingLeast (sinceOf before after) && leb (sinceOf before after) spacingMost
 
--- "The spacing test .. shall answer overlapping (below 195), back to back, or separated (above 205), with the distance." (02 i): `isSpaced` says
--- that the answer is back to back (`kinds-exact`). A word that is not later than the one before overlaps it, with the distance 0 (house).
+-- "It shall answer overlapping (below 195), back to back, or separated (above 205), with the distance." (02 i): `isSpaced` says that the answer is back
+-- to back (`kinds-exact`). A word that is not later than the one before overlaps it, with the distance 0 (house).
 unfoldable pub spacingOf : ℕ → ℕ → Spacing
 spacingOf before after =
     cond (ltb (sinceOf before after) spacingLeast) (Overlapping (record { 0 = sinceOf before after }))
