@@ -4,6 +4,7 @@ pub mod Findings
 pub mod Orders
 pub mod Walks
 pub mod Ranges
+pub mod Spacings
 pub mod Longer
 pub mod Goods
 pub mod Prefixes

@@ -13,7 +13,7 @@ use Rattle.words.specs.declared.statuses.Flag.the-variants.{MessageError, Busy}
 use Rattle.records.specs.declared.forms.WordRecord.{WordRecord}
 use Rattle.verdict.specs.Plans.{planRefusal, expectedOf}
 use Rattle.verdict.specs.Numbers.{good, noResponse, waiting, separated, lastVerdict}
-use Rattle.verdict.specs.Facts.{gapLeast, gapMost, listenedLeast, factOf}
+use Rattle.verdict.specs.Facts.{gapLeast, gapMost, listenedLeast, dataFact, factOf}
 use Rattle.verdict.specs.Verdicts.{findingOf, verdictOf, lookedOf, judgedOf, expectedAt, finishOf}
 use Rattle.verdict.specs.declared.judges.Finding.{Finding}
 use Rattle.verdict.specs.declared.judges.Judged.the-variants as judged
@@ -24,6 +24,15 @@ use Rattle.verdict.specs.declared.plans.Expected.the-variants.{Status, D
 -- The verdict is one of 0 to 12: verdict-range
 abbrev pub VerdictRange : Type 0
 VerdictRange = (plan : Plan) (rs : List WordRecord) → verdictOf plan rs ≤ lastVerdict
+
+-- ---- how a data word is badly spaced
+
+-- "10 separated or missing and 12 overlapping" (02 i): the fact of a data word is 12 exactly if it comes less than 195 ticks after the word before it,
+-- 10 exactly if it comes more than 205 after it: spacing-facts
+abbrev pub SpacingFacts : Type 0
+SpacingFacts =
+    (last : ℕ) (r : WordRecord)
+    → (eqb (dataFact last r) 12 ≡ ltb (sinceOf last (r .time .0)) 195) × (eqb (dataFact last r) 10 ≡ ltb 205 (sinceOf last (r .time .0)))
 
 -- ---- what good means
 
