@@ -368,15 +368,17 @@ unsigned plain_verdict(const plain_plan *plan, const uint8_t *bytes, size_t n, u
 /* ---- the terminal */
 
 #define DUE_AFTER 260 /* "the last word's time plus 260" */
+#define FIRST_WORD_MOST 750 /* "time passing the receive command by more than 750 without it" (02 b) */
 #define WORD_TICKS 200
 
 /* What the message under way awaits. */
 enum {
-    IDLE,     /* no message */
-    FIRST,    /* after a receive command: its first data word, or a second command */
-    STATUS,   /* between terminals: the transmitter's status */
-    DATA,     /* a data word */
-    COMPLETE, /* nothing: it has a due time */
+    IDLE,      /* no message */
+    FIRST,     /* after a receive command: its first data word, or a second command */
+    STATUS,    /* between terminals: the transmitter's status */
+    CONFIRMED, /* between terminals, after that: the first data word */
+    DATA,      /* a data word */
+    COMPLETE,  /* nothing: it has a due time */
 };
 
 /* "Fresh: transmitters on, nothing inhibited, status the own address, .. no message", and of the last spacing fault
@@ -586,7 +588,7 @@ static void begin_message(plain_terminal *t, const plain_record *r, plain_result
         t->status = plain_status_build(t->address, is_broadcast(r->word) ? PLAIN_BROADCAST : 0);
     t->command = r->word;
     t->bus = r->bus;
-    t->last_word = r->time;
+    t->command_time = t->last_word = r->time;
     t->got = 0;
     t->awaited = (uint8_t)awaited_words(r->word);
     if (t->awaited == 0)
@@ -607,10 +609,10 @@ static int is_second_command(const plain_terminal *t, const plain_record *r)
 static int take_word(plain_terminal *t, const plain_record *r)
 {
     if (t->stage == STATUS) {
-        /* "Then a valid status from that address is awaited for any length of time" */
+        /* "Then a valid status from that address is awaited" */
         if (r->sync != 0 || plain_status_address(r->word) != t->partner || !is_valid(r))
             return 0;
-        t->stage = DATA;
+        t->stage = CONFIRMED;
         return 1;
     }
     /* "Otherwise the message is faulty, also when all its words had come." */
@@ -643,9 +645,28 @@ static unsigned event_refused(const plain_terminal *t, uint64_t time, int fits, 
     return time < t->last_time ? 6 : 0;
 }
 
-static int awaits_data(const plain_terminal *t)
+/* "last word plus 206 while a data word is awaited" */
+static uint64_t late_at(const plain_terminal *t)
 {
-    return t->stage == FIRST || t->stage == DATA;
+    return t->stage == FIRST || t->stage == CONFIRMED || t->stage == DATA ? t->last_word + SPACED_MOST + 1 : PLAIN_NONE;
+}
+
+/* "the receive command plus 751", between terminals before the first data word (02 b) */
+static uint64_t overdue_at(const plain_terminal *t)
+{
+    return t->stage == STATUS || t->stage == CONFIRMED ? t->command_time + FIRST_WORD_MOST + 1 : PLAIN_NONE;
+}
+
+/* Rule 2: "A message that still awaits a data word with t more than 205 past its last word is faulty", and the limit of
+ * 02 b. The limit that was passed first counts: only that of rule 2 is a spacing fault. */
+static void end_waiting(plain_terminal *t, uint64_t time)
+{
+    uint64_t late = late_at(t), overdue = overdue_at(t);
+    if (time < late && time < overdue)
+        return;
+    if (late <= overdue)
+        t->spacing_fault = PLAIN_FAULT_SEPARATED;
+    end_faulty(t);
 }
 
 /* Rules 1 and 2, before a record is looked at. */
@@ -657,11 +678,8 @@ static void pass_time(plain_terminal *t, uint64_t time, const plain_tables *tabl
     /* "A message whose due time is at most t is settled." */
     if (t->stage == COMPLETE && t->last_word + DUE_AFTER <= time)
         settle(t, tables, result);
-    /* "A message that still awaits a data word with t more than 205 past its last word is faulty." */
-    else if (awaits_data(t) && time > t->last_word + SPACED_MOST) {
-        t->spacing_fault = PLAIN_FAULT_SEPARATED;
-        end_faulty(t);
-    }
+    else
+        end_waiting(t, time);
 }
 
 unsigned plain_event_mark(plain_terminal *t, uint64_t time, const plain_tables *tables, plain_result *result)
@@ -786,10 +804,12 @@ uint64_t plain_last_time(const plain_terminal *t)
     return t->last_time;
 }
 
-/* "the due time, or last word plus 206 while a data word is awaited, or none" */
+/* "the due time, or last word plus 206 while a data word is awaited, or none"; "Until that word comes the next moment is
+ * at most the receive command plus 751." (02 b) */
 uint64_t plain_next(const plain_terminal *t)
 {
     if (t->stage == COMPLETE)
         return t->last_word + DUE_AFTER;
-    return awaits_data(t) ? t->last_word + SPACED_MOST + 1 : PLAIN_NONE;
+    uint64_t late = late_at(t), overdue = overdue_at(t);
+    return late < overdue ? late : overdue;
 }

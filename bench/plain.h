@@ -92,7 +92,7 @@ typedef struct {
     uint8_t stage, bus, awaited, got; /* awaited and got count data words */
     uint16_t command;
     uint16_t partner;                 /* between terminals, the address that transmits */
-    uint64_t last_word;               /* the time of its last word */
+    uint64_t command_time, last_word; /* the times of its command and of its last word */
     uint16_t words[32];               /* its data words so far */
     /* the sending under way, up to, not including, sending_end; 0 for none */
     uint64_t sending_end;

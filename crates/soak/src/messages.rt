@@ -26,6 +26,14 @@ fn draw_gap(seed: &mut u64) -> u64 {
     }
 }
 
+// "gap = 345 + draw(11) if one in 4, else STEP[draw(16)]": the one so that the first data word comes near its limit
+fn draw_wait(seed: &mut u64) -> u64 {
+    if one_in(seed, 4) {
+        return 345 + draw(seed, 11);
+    }
+    draw_step(seed)
+}
+
 // Gives the second command of a message between terminals: "by draw(16): 0: T/R turns, 1: the lowest bit turns, 2: subaddress = 0".
 fn second_word(seed: &mut u64, partner: u16, count: u16) -> u16 {
     let subaddress = 1 + draw_short(seed, 30);
@@ -87,7 +95,7 @@ impl Stream {
     }
 
     fn on_status(self, seed: &mut u64) -> Made {
-        let time = self.after(draw_step(seed));
+        let time = self.after(draw_wait(seed));
         let word = addressed(self.partner, draw_short(seed, 2048));
         let turned = if one_in(seed, 16) { 0x0800 } else { 0 };
         let mut stream = self;

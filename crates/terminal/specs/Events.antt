@@ -8,9 +8,11 @@ use Rattle.words.specs.Words.{onClock, plusOf, dueDistance}
 use Rattle.words.specs.Refusals.{notRefused, refusedTableSize, refusedOwnAddress, refusedOutOfRange, refusedOutOfOrder}
 use Rattle.records.specs.Records.{inRange}
 use Rattle.terminal.specs.States.{ownOf, setupOf, freshHeld, withSelftest, noMessage, noSending, freshOf, withHeld, withMessage, withSending, atTime}
-use Rattle.terminal.specs.Messages.{awaitsData, isWhole}
+use Rattle.terminal.specs.Messages.{isWhole}
 use Rattle.terminal.specs.Settling.{noAnswer}
 use Rattle.terminal.specs.Rules.{rule1, rule1Answer, rule1Receive, rule2, rules3to6, cutsSending}
+use Rattle.terminal.specs.declared.states.Phase.{Phase}
+use Rattle.terminal.specs.declared.states.Phase.the-variants.{Idle, First, Pledged, Confirmed, Data}
 use Rattle.terminal.specs.declared.states.Message.{Message}
 use Rattle.terminal.specs.declared.states.Setup.{Setup}
 use Rattle.terminal.specs.declared.states.Terminal.{Terminal as State}
@@ -58,7 +60,7 @@ eventRefusal s e receive transmit =
     (cond (isInRange e) (cond (leb (s .time .0) (timeOf e)) notRefused refusedOutOfOrder) refusedOutOfRange)
     refusedTableSize
 
--- The state at the event's time, rules 1 and 2 done; then its record.
+-- The state at the event's time, rules 1 and 2 done, the limit of 02 b with rule 2; then its record.
 unfoldable pub passedOf : State → ℕ → List ℕ → State
 passedOf s t transmit = atTime (rule2 (rule1 s t transmit) t) t
 
@@ -111,7 +113,26 @@ restartedOf s = withSending (withMessage (withHeld s (freshHeld (s .setup .own))
 abbrev pub lateDistance : ℕ
 lateDistance = 206
 
+-- "Until that word comes the next moment is at most the receive command plus 751." (02 b)
+abbrev pub overdueDistance : ℕ
+overdueDistance = 751
+
+abbrev pub lateMoment : Message → ℕ
+lateMoment m = plusOf (m .last .0) lateDistance
+
+abbrev pub overdueMoment : Message → ℕ
+overdueMoment m = plusOf (m .start .0) overdueDistance
+
+abbrev pub earlierOf : ℕ → ℕ → ℕ
+earlierOf a b = cond (leb a b) a b
+
+-- while a word is awaited
+abbrev pub awaitedMoment : Phase → Message → NextMoment
+awaitedMoment Idle m = Never
+awaitedMoment First m = At (record { 0 = lateMoment m })
+awaitedMoment (Pledged address) m = At (record { 0 = overdueMoment m })
+awaitedMoment Confirmed m = At (record { 0 = earlierOf (lateMoment m) (overdueMoment m) })
+awaitedMoment Data m = At (record { 0 = lateMoment m })
+
 unfoldable pub nextMomentOf : Message → NextMoment
-nextMomentOf m =
-    cond (isWhole m) (At (record { 0 = plusOf (m .last .0) dueDistance }))
-    (cond (awaitsData m) (At (record { 0 = plusOf (m .last .0) lateDistance })) Never)
+nextMomentOf m = cond (isWhole m) (At (record { 0 = plusOf (m .last .0) dueDistance })) (awaitedMoment (m .phase) m)

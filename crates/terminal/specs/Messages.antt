@@ -7,7 +7,7 @@ use Rattle.records.specs.declared.forms.WordRecord.{WordRecord}
 use Rattle.terminal.specs.Commands.{isValidRecord}
 use Rattle.terminal.specs.declared.states.Own.{Own}
 use Rattle.terminal.specs.declared.states.Phase.{Phase}
-use Rattle.terminal.specs.declared.states.Phase.the-variants.{Idle, First, Pledged, Data}
+use Rattle.terminal.specs.declared.states.Phase.the-variants.{Idle, First, Pledged, Confirmed, Data}
 use Rattle.terminal.specs.declared.states.Message.{Message}
 use Rattle.terminal.specs.declared.states.Sending.{Sending}
 
@@ -16,17 +16,18 @@ abbrev pub isUnderWay : Phase → Bool
 isUnderWay Idle = false
 isUnderWay First = true
 isUnderWay (Pledged address) = true
+isUnderWay Confirmed = true
 isUnderWay Data = true
 
 unfoldable pub isOn : Message → ℕ → Bool
 isOn m bus = isUnderWay (m .phase) && eqb (m .bus) bus
 
--- What comes next is a data word, or nothing: not while a status between terminals is "awaited for any length of time (rule 2 does not apply
--- meanwhile)".
+-- What comes next is a data word, or nothing: not while a status between terminals is awaited ("rule 2 does not apply meanwhile").
 abbrev pub isCounting : Phase → Bool
 isCounting Idle = false
 isCounting First = true
 isCounting (Pledged address) = false
+isCounting Confirmed = true
 isCounting Data = true
 
 -- "still awaits a data word"
@@ -44,6 +45,29 @@ isDue m t = isWhole m && leb (m .last .0 + dueDistance) t
 -- "A message that still awaits a data word with t more than 205 past its last word"
 unfoldable pub isLate : Message → ℕ → Bool
 isLate m t = awaitsData m && ltb (m .last .0 + spacingMost) t
+
+-- Between terminals the first data word is awaited: from the second command word on, before and after the status of the other terminal (02 b).
+abbrev pub isBetween : Phase → Bool
+isBetween Idle = false
+isBetween First = false
+isBetween (Pledged address) = true
+isBetween Confirmed = true
+isBetween Data = false
+
+unfoldable pub awaitsFirst : Message → Bool
+awaitsFirst m = isBetween (m .phase) && not (isWhole m)
+
+-- "the first data word must come within 57 .. microseconds of the parity bit of the receive command. We take 57.0": a gap of 570 (02 b)
+abbrev pub firstWordDistance : ℕ
+firstWordDistance = 750
+
+-- "a first data word with a gap above 570, or time passing the receive command by more than 750 without it": the same moment (02 b)
+unfoldable pub isOverdue : Message → ℕ → Bool
+isOverdue m t = awaitsFirst m && ltb (m .start .0 + firstWordDistance) t
+
+-- By the one limit or the other the time of the message is over.
+abbrev pub isOver : Message → ℕ → Bool
+isOver m t = isLate m t || isOverdue m t
 
 -- "a bus on which the terminal is sending (due time D up to, not including, D + 200 times the words sent)"
 unfoldable pub isSending : Sending → ℕ → ℕ → Bool
@@ -65,6 +89,6 @@ isSecond own m r =
     && not (isMode (r .word))
     && eqb (countOf (r .word)) (countOf (m .command .0))
 
--- "Then a valid status from that address is awaited": no other bit and no distance is judged (DECISIONS 6). (003 A.3.9)
+-- "Then a valid status from that address is awaited": no other bit is judged, and no distance but that of `isOverdue` (DECISIONS 6). (003 A.3.9)
 unfoldable pub isStatusFrom : ℕ → WordRecord → Bool
 isStatusFrom address r = isValidRecord r && eqb (r .sync) commandSync && eqb (addressOf (r .word)) address

@@ -1,17 +1,17 @@
 -- Document 01, "The terminal": "At an event of time t, in this order", rules 1 to 6. Assumes nothing.
-use Prim.Native.Nat.{ℕ}
-use mathlib.Core.Bool.{Bool, true, false, cond, _&&_}
+use Prim.Native.Nat.{ℕ, _+_}
+use mathlib.Core.Bool.{Bool, true, false, not, cond, _&&_}
 use mathlib.Core.List.{List}
 use lib.Dec.{eqb}
 use lib.ListN.{replicate}
-use Rattle.words.specs.Words.{spacingOf, addressOf, codeOf, isTransmit, isMode, isBroadcast, statusOf, withFlag}
+use Rattle.words.specs.Words.{spacingMost, spacingOf, addressOf, codeOf, isTransmit, isMode, isBroadcast, statusOf, withFlag}
 use Rattle.words.specs.declared.times.Spacing.{Spacing}
 use Rattle.words.specs.declared.times.Spacing.the-variants as spacing
 use Rattle.words.specs.declared.statuses.Flag.the-variants.{MessageError, BroadcastReceived}
 use Rattle.records.specs.declared.forms.WordRecord.{WordRecord}
 use Rattle.terminal.specs.States.{withStatus, withCommand, withSpacing, messageOf, noMessage, atPhase, withWord, noSending, withHeld, withMessage, withSending}
 use Rattle.terminal.specs.Commands.{isOwn, isExempt}
-use Rattle.terminal.specs.Messages.{isOn, awaitsData, isDue, isLate, isSending, isNextData, isSecond, isStatusFrom}
+use Rattle.terminal.specs.Messages.{isOn, awaitsData, isDue, isOverdue, isOver, isSending, isNextData, isSecond, isStatusFrom}
 use Rattle.terminal.specs.Settling.{otherBus, settledStatus, replyOf, noAnswer, answerOf, sendingOf, storedOf}
 use Rattle.terminal.specs.Effects.{heldAfter}
 use Rattle.terminal.specs.declared.states.Own.{Own}
@@ -19,7 +19,7 @@ use Rattle.terminal.specs.declared.states.SpacingFault.{SpacingFault}
 use Rattle.terminal.specs.declared.states.SpacingFault.the-variants.{None, Overlapping, Separated}
 use Rattle.terminal.specs.declared.states.Held.{Held}
 use Rattle.terminal.specs.declared.states.Phase.{Phase}
-use Rattle.terminal.specs.declared.states.Phase.the-variants.{Idle, First, Pledged, Data}
+use Rattle.terminal.specs.declared.states.Phase.the-variants.{Idle, First, Pledged, Confirmed, Data}
 use Rattle.terminal.specs.declared.states.Message.{Message}
 use Rattle.terminal.specs.declared.states.Terminal.{Terminal as State}
 use Rattle.terminal.specs.declared.answers.Answer.{Answer}
@@ -49,7 +49,8 @@ settledOf s transmit =
 unfoldable pub rule1 : State → ℕ → List ℕ → State
 rule1 s t transmit = cond (isDue (s .message) t) (settledOf s transmit) s
 
--- ---- "2. A message that still awaits a data word with t more than 205 past its last word is faulty."
+-- ---- "2. A message that still awaits a data word with t more than 205 past its last word is faulty." And "a first data word with a gap above 570, or
+-- time passing the receive command by more than 750 without it, makes the message faulty." (02 b)
 
 -- "A faulty message ends at once: message error goes into the stored status (not for the two exempt commands), no answer, no data stored."
 abbrev pub markedOf : Own → Held → ℕ → Held
@@ -65,9 +66,13 @@ keptBy h Separated = withSpacing h false true
 unfoldable pub faultyOf : State → SpacingFault → State
 faultyOf s fault = withMessage (withHeld s (keptBy (markedOf (s .setup .own) (s .held) (s .message .command .0)) fault)) noMessage
 
--- Every fault of this rule is a spacing fault, whatever event shows it: "separated (above 205)" (02 i; DECISIONS 73).
+-- The fault of rule 2 is a spacing fault, whatever event shows it: "separated (above 205)" (02 i; DECISIONS 73). That of the other limit is none, and
+-- counts where that limit was passed first: the message was overdue when it was not yet late (DECISIONS 78).
+unfoldable pub timeFault : Message → SpacingFault
+timeFault m = cond (awaitsData m && not (isOverdue m (m .last .0 + spacingMost))) Separated None
+
 unfoldable pub rule2 : State → ℕ → State
-rule2 s t = cond (isLate (s .message) t) (faultyOf s Separated) s
+rule2 s t = cond (isOver (s .message) t) (faultyOf s (timeFault (s .message))) s
 
 -- ---- "3. A record on a bus on which the terminal is sending (due time D up to, not including, D + 200 times the words sent) is ignored."
 
@@ -93,7 +98,7 @@ unfoldable pub firstPhase : ℕ → Phase
 firstPhase word = cond (isTransmit word) Data (cond (isMode word) Data First)
 
 unfoldable pub begunOf : WordRecord → Message
-begunOf r = messageOf (firstPhase (r .word)) (r .bus) (record { 0 = r .word }) (r .time) 0 (replicate 32 0)
+begunOf r = messageOf (firstPhase (r .word)) (r .bus) (record { 0 = r .word }) (r .time) (r .time) 0 (replicate 32 0)
 
 -- "Replacement by itself marks no fault."
 unfoldable pub rule4 : State → WordRecord → State
@@ -136,12 +141,13 @@ nextData s r =
 unfoldable pub nextWord : Phase → State → WordRecord → State
 nextWord Idle s r = s
 nextWord Data s r = nextData s r
+nextWord Confirmed s r = nextData s r
 nextWord First s r =
     cond (isSecond (s .setup .own) (s .message) r)
     (withMessage s (movedOf (s .message) (Pledged (addressOf (r .word))) r))
     (nextData s r)
 nextWord (Pledged address) s r =
-    cond (isStatusFrom address r) (withMessage s (movedOf (s .message) Data r)) (faultyOf s (faultIn (s .message) r))
+    cond (isStatusFrom address r) (withMessage s (movedOf (s .message) Confirmed r)) (faultyOf s (faultIn (s .message) r))
 
 unfoldable pub rule5 : State → WordRecord → State
 rule5 s r = nextWord (s .message .phase) s r

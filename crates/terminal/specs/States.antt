@@ -102,23 +102,24 @@ withSpacing h overlapping separated = heldOf (h .status) (h .command) (h .syncwo
 unfoldable pub spacingIn : Held → SpacingFault
 spacingIn h = cond (h .overlapping) Overlapping (cond (h .separated) Separated None)
 
--- ---- the message under way: what it awaits, its bus, its command, the time of its last word, its data words so far and their number
+-- ---- the message under way: what it awaits, its bus, its command and the time of that, the time of its last word, its data words so far and their
+-- number
 
-abbrev pub messageOf : Phase → ℕ → CommandWord → Moment → ℕ → List ℕ → Message
-messageOf phase bus command last got words =
-    record { last = last; got = got; words = words; command = command; phase = phase; bus = bus }
+abbrev pub messageOf : Phase → ℕ → CommandWord → Moment → Moment → ℕ → List ℕ → Message
+messageOf phase bus command start last got words =
+    record { start = start; last = last; got = got; words = words; command = command; phase = phase; bus = bus }
 
 -- "no message"
 abbrev pub noMessage : Message
-noMessage = messageOf Idle 0 (record { 0 = 0 }) (record { 0 = 0 }) 0 (replicate 32 0)
+noMessage = messageOf Idle 0 (record { 0 = 0 }) (record { 0 = 0 }) (record { 0 = 0 }) 0 (replicate 32 0)
 
 -- in another phase, its last word then
 abbrev pub atPhase : Message → Phase → Moment → Message
-atPhase m phase last = messageOf phase (m .bus) (m .command) last (m .got) (m .words)
+atPhase m phase last = messageOf phase (m .bus) (m .command) (m .start) last (m .got) (m .words)
 
 -- with one data word more, at its own place
 abbrev pub withWord : Message → ℕ → Message
-withWord m word = messageOf (m .phase) (m .bus) (m .command) (m .last) (m .got + 1) (set (m .words) (m .got) word)
+withWord m word = messageOf (m .phase) (m .bus) (m .command) (m .start) (m .last) (m .got + 1) (set (m .words) (m .got) word)
 
 -- ---- the answer that is being sent
 

@@ -14,7 +14,7 @@ use Rattle.terminal.specs.Settling.{otherBus}
 use Rattle.terminal.specs.Rules.{faultyOf, rule4, stagedOf, movedOf, faultIn}
 use Rattle.terminal.specs.declared.states.Own.{Own}
 use Rattle.terminal.specs.declared.states.Phase.{Phase}
-use Rattle.terminal.specs.declared.states.Phase.the-variants.{Idle, First, Pledged, Data}
+use Rattle.terminal.specs.declared.states.Phase.the-variants.{Idle, First, Pledged, Confirmed, Data}
 use Rattle.terminal.specs.declared.states.Message.{Message}
 use Rattle.terminal.specs.declared.states.Work.{Work}
 use Rattle.terminal.specs.declared.states.Terminal.{Terminal as State}
@@ -59,6 +59,7 @@ dataMeaning m r = cond (awaitsData m && isNextData m r) DataWord (Faulty (faultI
 unfoldable pub wordMeaning : Phase → Own → Message → WordRecord → Meaning
 wordMeaning Idle own m r = Nothing
 wordMeaning Data own m r = dataMeaning m r
+wordMeaning Confirmed own m r = dataMeaning m r
 wordMeaning First own m r = cond (isSecond own m r) SecondCommand (dataMeaning m r)
 wordMeaning (Pledged address) own m r = cond (isStatusFrom address r) Status (Faulty (faultIn m r))
 
@@ -89,7 +90,7 @@ unfoldable pub changedOf : Own → Work → WordRecord → Meaning → Work
 changedOf own w r Ignored = w
 changedOf own w r Begins = workOf (rule4 (bareOf own w) r)
 changedOf own w r SecondCommand = messageIn w (movedOf (w .message) (Pledged (addressOf (r .word))) r)
-changedOf own w r Status = messageIn w (movedOf (w .message) Data r)
+changedOf own w r Status = messageIn w (movedOf (w .message) Confirmed r)
 changedOf own w r DataWord = messageIn w (stagedOf (w .message) r)
 changedOf own w r (Faulty fault) = workOf (faultyOf (bareOf own w) fault)
 changedOf own w r Nothing = w

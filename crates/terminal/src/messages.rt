@@ -2,7 +2,7 @@
 // Refusals: none.
 ghost use mathlib.Core.Path.{_≡_};
 ghost use Rattle.words.specs.Words.{isSpaced};
-ghost use Rattle.terminal.specs.Messages.{isUnderWay, isOn, isCounting, awaitsData, isWhole, isDue, isLate, isSending, isNextData, isSecond, isStatusFrom};
+ghost use Rattle.terminal.specs.Messages.{isUnderWay, isOn, isCounting, awaitsData, isWhole, isDue, isLate, isBetween, awaitsFirst, isOverdue, isOver, isSending, isNextData, isSecond, isStatusFrom};
 use crate::commands::is_valid_record;
 use crate::states::Message;
 use crate::states::Own;
@@ -26,6 +26,7 @@ impl Phase {
             Phase::Idle => false,
             Phase::First => true,
             Phase::Pledged(_) => true,
+            Phase::Confirmed => true,
             Phase::Data => true,
         }
     }
@@ -38,7 +39,21 @@ impl Phase {
             Phase::Idle => false,
             Phase::First => true,
             Phase::Pledged(_) => false,
+            Phase::Confirmed => true,
             Phase::Data => true,
+        }
+    }
+
+    // Says whether a message between terminals has no data word yet, from the second command word on.
+    fn is_between(self) -> bool
+        ensures answer { λ r. ⌜ r ≡ isBetween self ⌝ }
+    {
+        match self {
+            Phase::Idle => false,
+            Phase::First => false,
+            Phase::Pledged(_) => true,
+            Phase::Confirmed => true,
+            Phase::Data => false,
         }
     }
 }
@@ -79,11 +94,34 @@ impl Message {
     }
 
     // Says whether a data word is awaited for too long.
-    pub(crate) fn is_late(self, time: Moment) -> bool
+    fn is_late(self, time: Moment) -> bool
         ensures answer { λ r. ⌜ r ≡ isLate self (time .0) ⌝ }
     {
         let past = time.since(self.last);
         self.awaits_data() & (Terminal::SPACING_MOST.0 < past.0)
+    }
+
+    // Says whether the first data word of another terminal is awaited.
+    pub(crate) fn awaits_first(self) -> bool
+        ensures answer { λ r. ⌜ r ≡ awaitsFirst self ⌝ }
+    {
+        let phase = self.phase;
+        phase.is_between() & !self.is_whole()
+    }
+
+    // Says whether it is awaited for too long.
+    fn is_overdue(self, time: Moment) -> bool
+        ensures answer { λ r. ⌜ r ≡ isOverdue self (time .0) ⌝ }
+    {
+        let past = time.since(self.start);
+        self.awaits_first() & (Terminal::FIRST_WORD_DISTANCE.0 < past.0)
+    }
+
+    // Says whether the time of the message is over.
+    pub(crate) fn is_over(self, time: Moment) -> bool
+        ensures answer { λ r. ⌜ r ≡ isOver self (time .0) ⌝ }
+    {
+        self.is_late(time) | self.is_overdue(time)
     }
 
     // Says whether a word of that time is "195 to 205 after the one before".

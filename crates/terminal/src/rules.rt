@@ -3,7 +3,7 @@
 // them. Refusals: none.
 ghost use mathlib.Core.Path.{_≡_};
 ghost use lib.ListN.{length};
-ghost use Rattle.terminal.specs.Rules.{rule1Answer, rule1Receive, markedOf, keptBy, faultyOf, rule2, faultBy, faultIn, firstPhase, notedStatus, notedCommand, begunOf, rule4};
+ghost use Rattle.terminal.specs.Rules.{rule1Answer, rule1Receive, markedOf, keptBy, faultyOf, timeFault, rule2, faultBy, faultIn, firstPhase, notedStatus, notedCommand, begunOf, rule4};
 ghost use Rattle.terminal.specs.Events.{passedOf};
 ghost use Prim.Native.Nat.{_<_};
 ghost use Rattle.terminal.specs.declared.rules.Meaning.the-variants.{DataWord};
@@ -28,6 +28,7 @@ use words::Flag;
 use words::Moment;
 use words::Spacing;
 use words::StatusWord;
+use words::Ticks;
 
 // What rules 1 and 2 give: the work after them, and the answer that the event carries.
 pub struct Passed {
@@ -71,7 +72,8 @@ impl Terminal {
     }
 }
 
-// ---- "2. A message that still awaits a data word with t more than 205 past its last word is faulty."
+// ---- "2. A message that still awaits a data word with t more than 205 past its last word is faulty." And "a first data word with a gap above 570, or
+// time passing the receive command by more than 750 without it, makes the message faulty." (02 b)
 impl Held {
     // "message error goes into the stored status (not for the two exempt commands)"
     fn marked(self, own: Own, command: CommandWord) -> Held
@@ -96,6 +98,22 @@ impl Held {
     }
 }
 
+// A message of which a data word comes later than this after its command is overdue before it is late.
+const OVERDUE_FIRST: Ticks = Ticks(545);
+
+impl Message {
+    // Gives the spacing fault of a message whose time is over: separated, and none where it was overdue before it was late (DECISIONS 78).
+    fn time_fault(self) -> SpacingFault
+        ensures fault { λ r. ⌜ r ≡ timeFault self ⌝ }
+    {
+        let waited = self.last.since(self.start);
+        if self.awaits_data() & !(self.awaits_first() & (OVERDUE_FIRST.0 < waited.0)) {
+            return SpacingFault::Separated;
+        }
+        SpacingFault::None
+    }
+}
+
 impl Work {
     // "A faulty message ends at once": whatever its fault, no answer, no data stored.
     fn faulty(self, own: Own, fault: SpacingFault) -> Work
@@ -113,12 +131,12 @@ impl Work {
         }
     }
 
-    // Every fault of this rule is separated (02 i; DECISIONS 73).
     fn rule2(self, own: Own, time: Moment) -> Work
         ensures work { λ r. ⌜ r ≡ workOf (rule2 (bareOf own self) (time .0)) ⌝ }
     {
-        if self.message.is_late(time) {
-            return self.faulty(own, SpacingFault::Separated);
+        if self.message.is_over(time) {
+            let fault = self.message.time_fault();
+            return self.faulty(own, fault);
         }
         self
     }
@@ -182,8 +200,9 @@ impl Message {
     {
         let command = CommandWord(heard.word);
         let phase = first_phase(command);
+        let start = heard.time;
         let last = heard.time;
-        Message::build(phase, heard.bus, command, last, 0, [0; 32])
+        Message::build(phase, heard.bus, command, start, last, 0, [0; 32])
     }
 }
 
@@ -274,6 +293,7 @@ impl Message {
         match phase {
             Phase::Idle => Meaning::Nothing,
             Phase::Data => self.data_meaning(heard),
+            Phase::Confirmed => self.data_meaning(heard),
             Phase::First => {
                 if self.is_second(own, heard) {
                     Meaning::SecondCommand
@@ -325,7 +345,7 @@ impl Work {
                 let partner = CommandWord(heard.word).address();
                 self.with_message(message.at_phase(Phase::Pledged(partner), last))
             }
-            Meaning::Status => self.with_message(message.at_phase(Phase::Data, last)),
+            Meaning::Status => self.with_message(message.at_phase(Phase::Confirmed, last)),
             Meaning::DataWord => {
                 let moved = message.at_phase(Phase::Data, last);
                 self.with_message(moved.with_word(heard.word))

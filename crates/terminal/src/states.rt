@@ -5,6 +5,7 @@ ghost use mathlib.Core.Path.{_≡_};
 ghost use mathlib.Core.List.{[], _∷_};
 ghost use Prim.Native.Nat.{_<_};
 ghost use Rattle.words.specs.Words.{dueDistance, spacingLeast, spacingMost};
+ghost use Rattle.terminal.specs.Messages.{firstWordDistance};
 ghost use Rattle.terminal.specs.States.{ownOf, setupOf, freshHost, freshHeld, withStatus, withCommand, withSyncWord, withSelftest, withInhibit, withShut, withSpacing, messageOf, noMessage, atPhase, withWord, noSending, freshOf};
 ghost use Rattle.terminal.specs.Works.{workOf, messageIn, withWork};
 use crate::tables::BUSES;
@@ -68,12 +69,15 @@ pub enum Phase {
     First,
     // a second command word has come, and a status from its address is awaited
     Pledged(u16),
+    // that status has come, and the first data word is awaited
+    Confirmed,
     // data words, or nothing more
     Data,
 }
 
-// The message under way: the time of its last word, and the data words so far, staged until it is settled.
+// The message under way: the times of its command and of its last word, and the data words so far, staged until it is settled.
 pub struct Message {
+    pub start: Moment,
     pub last: Moment,
     pub got: usize,
     pub words: [u16; 32],
@@ -237,13 +241,15 @@ impl Message {
         phase: Phase,
         bus: u8,
         command: CommandWord,
+        start: Moment,
         last: Moment,
         got: usize,
         words: [u16; 32],
     ) -> Message
-        ensures message { λ r. ⌜ r ≡ messageOf phase bus command last got words ⌝ }
+        ensures message { λ r. ⌜ r ≡ messageOf phase bus command start last got words ⌝ }
     {
         Message {
+            start,
             last,
             got,
             words,
@@ -257,7 +263,7 @@ impl Message {
     pub(crate) fn none() -> Message
         ensures message { λ r. ⌜ r ≡ noMessage ⌝ }
     {
-        Message::build(Phase::Idle, 0, CommandWord(0), Moment(0), 0, [0; 32])
+        Message::build(Phase::Idle, 0, CommandWord(0), Moment(0), Moment(0), 0, [0; 32])
     }
 
     // The message in another phase, its last word then.
@@ -265,8 +271,9 @@ impl Message {
         ensures message { λ r. ⌜ r ≡ atPhase self phase last ⌝ }
     {
         let command = self.command;
+        let start = self.start;
         let words = self.words;
-        Message::build(phase, self.bus, command, last, self.got, words)
+        Message::build(phase, self.bus, command, start, last, self.got, words)
     }
 
     // The message with one data word more, at its own place.
@@ -278,8 +285,9 @@ impl Message {
         let words = with_word(before, self.got, word);
         let phase = self.phase;
         let command = self.command;
+        let start = self.start;
         let last = self.last;
-        Message::build(phase, self.bus, command, last, self.got + 1, words)
+        Message::build(phase, self.bus, command, start, last, self.got + 1, words)
     }
 }
 
@@ -315,15 +323,18 @@ impl Terminal {
     pub const SPACING_LEAST: Ticks = Ticks::SPACING_LEAST;
 
     pub const SPACING_MOST: Ticks = Ticks::SPACING_MOST;
+    // "the first data word must come within 57 .. microseconds of the parity bit of the receive command": a gap of 570 (02 b)
+    pub const FIRST_WORD_DISTANCE: Ticks = Ticks(750);
 
     // Gives the constants above. Nothing calls it: its promise holds each to the definition that contracts cite.
-    fn list_distances() -> [u64; 3]
-        ensures all { λ r. ⌜ r ≡ dueDistance ∷ spacingLeast ∷ spacingMost ∷ [] ⌝ }
+    fn list_distances() -> [u64; 4]
+        ensures all { λ r. ⌜ r ≡ dueDistance ∷ spacingLeast ∷ spacingMost ∷ firstWordDistance ∷ [] ⌝ }
     {
         [
             Self::DUE_DISTANCE.0,
             Self::SPACING_LEAST.0,
             Self::SPACING_MOST.0,
+            Self::FIRST_WORD_DISTANCE.0,
         ]
     }
 
