@@ -8,7 +8,7 @@ use borrow.Author.Tests.{eq-eqb}
 use Rattle.words.specs.Words.{addressOf, codeOf, isTransmit, isMode, commandSync}
 use Rattle.records.specs.declared.forms.WordRecord.{WordRecord}
 use Rattle.terminal.specs.Commands.{isValidRecord, isOwn, isExempt}
-use Rattle.terminal.specs.Messages.{isCounting, isSending}
+use Rattle.terminal.specs.Messages.{isCounting, isBetween, isSending}
 use Rattle.terminal.specs.Settling.{isShut}
 use Rattle.terminal.specs.Rules.{rule1, notedStatus, notedCommand, firstPhase, begunOf, rule4, rules3to6}
 use Rattle.terminal.specs.Events.{passedOf}
@@ -39,9 +39,15 @@ first-counts word =
     let counts : Phase → Type 0 = λ p. isCounting p ≡ true in
     cond-cases counts (isTransmit word) (λ transmits. refl) (λ receives. cond-cases counts (isMode word) (λ mode. refl) (λ other. refl))
 
+first-direct : (word : ℕ) → isBetween (firstPhase word) ≡ false
+unfolding firstPhase
+first-direct word =
+    let direct : Phase → Type 0 = λ p. isBetween p ≡ false in
+    cond-cases direct (isTransmit word) (λ transmits. refl) (λ receives. cond-cases direct (isMode word) (λ mode. refl) (λ other. refl))
+
 pub begun-gathered : (r : WordRecord) → Gathered (r .bus) (r .word) (r .time .0) [] (begunOf r)
 unfolding begunOf
-begun-gathered r = record { counts = first-counts (r .word); on = refl; asked = refl; last = refl; got = refl; kept = refl; room = refl }
+begun-gathered r = record { counts = first-counts (r .word); direct = first-direct (r .word); on = refl; asked = refl; last = refl; got = refl; kept = refl; room = refl }
 
 pub own-command : (own : Own) (r : WordRecord) → isValidRecord r ≡ true → r .sync ≡ commandSync → addressOf (r .word) ≡ own .address → isOwn own r ≡ true
 unfolding isOwn

@@ -15,11 +15,11 @@ use Rattle.terminal.proofs.Counts.{awaited-most}
 use Rattle.history.specs.Calls.{Call, setUp, event, host, clearSelftest, restart, isAccepted, step, run}
 use Rattle.history.specs.Courses.{isBefore, Course, over, between, word, Silent}
 use Rattle.history.proofs.Times.{event-time, ahead}
-use Rattle.history.proofs.Ways.{Way, Gathered, Calm, not-due, not-late, InTime, call-keeps, staged-gathered, word-moves, word-silent}
+use Rattle.history.proofs.Ways.{Way, Gathered, Calm, not-due, not-over, InTime, call-keeps, staged-gathered, word-moves, word-silent}
 
 -- ---- the whole course
 
--- an accepted event between comes while nothing is due and nothing late
+-- an accepted event between comes while nothing is due and no time over
 module _ (s : State) {bus last end : ℕ} (e : Event) (receive transmit : List ℕ) (ok : isAccepted s e receive transmit ≡ true) where
   calm-between : {rest : List ℕ} {ks : List Call} → (rest ≡ [] → isBefore s (last + dueDistance) (event e receive transmit) ≡ true)
       → Course bus (step s (event e receive transmit)) last rest ks end
@@ -41,7 +41,7 @@ in-time-between : {begun : State} {m : Message} {s : State} (way : Way begun m s
     → InTime begun m s way bus (g .on) k
 in-time-between {s = s} way {rest = rest} g all (event e receive transmit) before course =
     λ ok. let calm = calm-between s e receive transmit ok before course in
-    (not-due g rest (timeOf e) all calm, not-late g rest (timeOf e) all calm)
+    (not-due g rest (timeOf e) all calm, not-over g rest (timeOf e) all calm)
 in-time-between way g all (setUp address receive transmit) before course = tt
 in-time-between way g all (host setting) before course = tt
 in-time-between way g all clearSelftest before course = tt

@@ -10,21 +10,20 @@ use Rattle.words.proofs.Truth.{and-both}
 use Rattle.records.specs.declared.forms.WordRecord.{WordRecord}
 use Rattle.terminal.specs.States.{atTime}
 use Rattle.terminal.specs.Commands.{isOwn, isExempt}
-use Rattle.terminal.specs.Messages.{isUnderWay, isOn, isCounting, awaitsData, isWhole, isDue, isLate, isNextData, isSecond}
-use Rattle.terminal.specs.Rules.{settledOf, rule1, faultyOf, rule2, rule3, firstPhase, begunOf, rule4, stagedOf, movedOf, faultIn, nextData, nextWord, rule5, rules3to6}
+use Rattle.terminal.specs.Messages.{isUnderWay, isOn, isCounting, awaitsData, isWhole, isDue, isLate, isBetween, awaitsFirst, isOverdue, isOver, isNextData, isSecond}
+use Rattle.terminal.specs.Rules.{settledOf, rule1, faultyOf, timeFault, rule2, rule3, firstPhase, begunOf, rule4, stagedOf, movedOf, faultIn, nextData, nextWord, rule5, rules3to6}
 use Rattle.terminal.specs.Events.{timeOf, passedOf, takenOf}
 use Rattle.terminal.specs.declared.states.SpacingFault.{SpacingFault}
-use Rattle.terminal.specs.declared.states.SpacingFault.the-variants.{Separated}
 use Rattle.terminal.specs.declared.states.Phase.{Phase}
-use Rattle.terminal.specs.declared.states.Phase.the-variants.{Idle, First, Pledged, Data}
+use Rattle.terminal.specs.declared.states.Phase.the-variants.{Idle, First, Pledged, Confirmed, Data}
 use Rattle.terminal.specs.declared.states.Message.{Message}
 use Rattle.terminal.specs.declared.states.Terminal.{Terminal as State}
 use Rattle.terminal.specs.declared.events.Event.{Event}
 use Rattle.terminal.specs.declared.events.Event.the-variants.{Mark, Word}
-use Rattle.history.specs.States.{isNextWord, isBadWord, wordKind, EventFault, noFault, aFault, isFault, wordFault, faultOf, marksFault, MadeFaulty, ComesToFault, by-time, by-word}
+use Rattle.history.specs.States.{isNextWord, isBadWord, wordKind, timeKind, EventFault, noFault, aFault, isFault, wordFault, faultOf, marksFault, MadeFaulty, ComesToFault, by-time, by-word}
 use Rattle.history.specs.Demands.{FaultExactly}
 use Rattle.history.proofs.Tests.{true≢, false≢, cond-cases, and-left, and-right, or-false, or-cases}
-use Rattle.history.proofs.Phases.{counting-under-way, late-under-way}
+use Rattle.history.proofs.Phases.{counting-under-way, over-under-way}
 use Rattle.history.proofs.Passing.{still, passed-under-way}
 use Rattle.history.proofs.Begun.{first-counts}
 
@@ -42,29 +41,39 @@ by-word-if : (s : State) (e : Event) → isFault (wordFault s e) ≡ hasBadWord 
 by-word-if s (Mark t) = refl
 by-word-if s (Word r) = one-if (isBadWord s r) (wordKind (s .message) r)
 
-either-if : (late : Bool) (f : EventFault) (bad : Bool) → isFault f ≡ bad → isFault (cond late (aFault Separated) f) ≡ (late || bad)
-either-if true f bad h = refl
-either-if false f bad h = h
+either-if : (over : Bool) (kind : SpacingFault) (f : EventFault) (bad : Bool) → isFault f ≡ bad → isFault (cond over (aFault kind) f) ≡ (over || bad)
+either-if true kind f bad h = refl
+either-if false kind f bad h = h
 
 pub fault-either : (s : State) (e : Event) (transmit : List ℕ)
-    → isFault (faultOf s e transmit) ≡ (isLate (s .message) (timeOf e) || hasBadWord (passedOf s (timeOf e) transmit) e)
-fault-either s e transmit = either-if (isLate (s .message) (timeOf e)) _ _ (by-word-if (passedOf s (timeOf e) transmit) e)
+    → isFault (faultOf s e transmit) ≡ (isOver (s .message) (timeOf e) || hasBadWord (passedOf s (timeOf e) transmit) e)
+fault-either s e transmit = either-if (isOver (s .message) (timeOf e)) _ _ _ (by-word-if (passedOf s (timeOf e) transmit) e)
 
 -- ---- a marked fault comes of the rules
 
 -- a message that is late is not due
-pub late-not-due : (m : Message) (t : ℕ) → isLate m t ≡ true → isDue m t ≡ false
+late-not-due : (m : Message) (t : ℕ) → isLate m t ≡ true → isDue m t ≡ false
 unfolding isLate isDue awaitsData isWhole
 late-not-due m t late =
     let counts : isCounting (m .phase) ≡ true = search (and-left, late) in
     let awaits : ltb (m .got) (awaitedOf (m .command .0)) ≡ true = search (and-left, and-right, late) in
     rw (counts, lt-leb (awaitedOf (m .command .0)) (m .got) (ltb-true (m .got) (awaitedOf (m .command .0)) awaits))
 
-pub due-in-time : (m : Message) (t : ℕ) → isDue m t ≡ true → isLate m t ≡ false
-due-in-time m t due = go (isLate m t) refl
+-- nor is one that is overdue
+overdue-not-due : (m : Message) (t : ℕ) → isOverdue m t ≡ true → isDue m t ≡ false
+unfolding isOverdue awaitsFirst isDue
+overdue-not-due m t overdue =
+    let missing : isWhole m ≡ false = not-true (isWhole m) (search (and-left, and-right, overdue)) in
+    rw missing
+
+pub over-not-due : (m : Message) (t : ℕ) → isOver m t ≡ true → isDue m t ≡ false
+over-not-due m t over = or-cases (isLate m t) (isOverdue m t) over (late-not-due m t) (overdue-not-due m t)
+
+pub due-in-time : (m : Message) (t : ℕ) → isDue m t ≡ true → isOver m t ≡ false
+due-in-time m t due = go (isOver m t) refl
   where
-    go : (b : Bool) → isLate m t ≡ b → b ≡ false
-    go true late = true≢ (sym due ∙ late-not-due m t late)
+    go : (b : Bool) → isOver m t ≡ b → b ≡ false
+    go true over = true≢ (sym due ∙ over-not-due m t over)
     go false in-time = refl
 
 -- rule 1 leaves what is not due
@@ -73,15 +82,17 @@ unfolding rule1
 not-settled s t transmit not-due = rw not-due
 
 -- by its time
-pub late-faulty : (s : State) (t : ℕ) (transmit : List ℕ) → isLate (s .message) t ≡ true → (rule1 s t transmit ≡ s) × (rule2 s t ≡ faultyOf s Separated)
+pub over-faulty : (s : State) (t : ℕ) (transmit : List ℕ) → isOver (s .message) t ≡ true
+    → (rule1 s t transmit ≡ s) × (rule2 s t ≡ faultyOf s (timeFault (s .message)))
 unfolding rule2
-late-faulty s t transmit late = (not-settled s t transmit (late-not-due (s .message) t late), rw late)
+over-faulty s t transmit over = (not-settled s t transmit (over-not-due (s .message) t over), rw over)
 
 -- by its word
 bad-next : (p : Phase) (s : State) (r : WordRecord) → isNextWord p s r ≡ false → nextWord p s r ≡ faultyOf s (faultIn (s .message) r)
 unfolding nextWord nextData
 bad-next Idle s r bad = true≢ bad
 bad-next Data s r bad = rw bad
+bad-next Confirmed s r bad = rw bad
 bad-next First s r bad =
     or-false (isSecond (s .setup .own) (s .message) r) (awaitsData (s .message) && isNextData (s .message) r) bad
     (λ no-second no-data. rw (no-second, no-data))
@@ -116,20 +127,20 @@ module _ (s : State) (transmit : List ℕ) (plain : isExempt (s .setup .own) (s 
         faulty = bad-faulty x r bad;
       })
 
-  time-comes : (e : Event) → isLate (s .message) (timeOf e) ≡ true → ComesToFault s e transmit
-  time-comes e late =
-      let faulty = late-faulty s (timeOf e) transmit late in
+  time-comes : (e : Event) → isOver (s .message) (timeOf e) ≡ true → ComesToFault s e transmit
+  time-comes e over =
+      let faulty = over-faulty s (timeOf e) transmit over in
       by-time
-      (rw (faulty .0) (record { under-way = late-under-way (s .message) (timeOf e) late; marked = plain; kind = Separated; faulty = faulty .1 }))
+      (rw (faulty .0) (record { under-way = over-under-way (s .message) (timeOf e) over; marked = plain; kind = timeFault (s .message); faulty = faulty .1 }))
 
 marked-comes : (s : State) (e : Event) (transmit : List ℕ) → marksFault s e transmit ≡ true → ComesToFault s e transmit
 marked-comes s e transmit marks =
     let exempt : Bool = isExempt (s .setup .own) (s .message .command .0) in
-    let late : Bool = isLate (s .message) (timeOf e) in
+    let over : Bool = isOver (s .message) (timeOf e) in
     let bad : Bool = hasBadWord (passedOf s (timeOf e) transmit) e in
-    let parts = and-both (not exempt) (late || bad) (ap (λ (b : Bool). not exempt && b) (sym (fault-either s e transmit)) ∙ marks) in
+    let parts = and-both (not exempt) (over || bad) (ap (λ (b : Bool). not exempt && b) (sym (fault-either s e transmit)) ∙ marks) in
     let plain : exempt ≡ false = not-true exempt (parts .0) in
-    or-cases late bad (parts .1) (time-comes s transmit plain e) (word-comes s transmit plain e)
+    or-cases over bad (parts .1) (time-comes s transmit plain e) (word-comes s transmit plain e)
 
 -- ---- and a fault that comes of the rules is marked
 
@@ -139,27 +150,28 @@ unfolding faultyOf
 no-fault s next kind on same = true≢ (sym on ∙ ap (λ (x : State). isUnderWay (x .message .phase)) same)
 
 -- by its time
-by-time-late : (s : State) (t : ℕ) (transmit : List ℕ) → MadeFaulty (rule1 s t transmit) (rule2 (rule1 s t transmit) t)
-    → (isExempt (s .setup .own) (s .message .command .0) ≡ false) × (isLate (s .message) t ≡ true)
+by-time-over : (s : State) (t : ℕ) (transmit : List ℕ) → MadeFaulty (rule1 s t transmit) (rule2 (rule1 s t transmit) t)
+    → (isExempt (s .setup .own) (s .message .command .0) ≡ false) × (isOver (s .message) t ≡ true)
 unfolding rule1 rule2 settledOf
-by-time-late s t transmit = go (isDue (s .message) t) refl
+by-time-over s t transmit = go (isDue (s .message) t) refl
   where
     Fact : Type 0
-    Fact = (isExempt (s .setup .own) (s .message .command .0) ≡ false) × (isLate (s .message) t ≡ true)
+    Fact = (isExempt (s .setup .own) (s .message .command .0) ≡ false) × (isOver (s .message) t ≡ true)
 
-    late : (b : Bool) → isLate (s .message) t ≡ b → MadeFaulty s (rule2 s t) → Fact
-    late true is made = (made .marked, is)
-    late false is made = no-fault s s (made .kind) (made .under-way) (rw is at (made .faulty))
+    over : (b : Bool) → isOver (s .message) t ≡ b → MadeFaulty s (rule2 s t) → Fact
+    over true is made = (made .marked, is)
+    over false is made = no-fault s s (made .kind) (made .under-way) (rw is at (made .faulty))
 
     go : (b : Bool) → isDue (s .message) t ≡ b → MadeFaulty (rule1 s t transmit) (rule2 (rule1 s t transmit) t) → Fact
     go true due made = false≢ (rw due at (made .under-way))
-    go false not-due made = late (isLate (s .message) t) refl (rw (not-settled s t transmit not-due) at made)
+    go false not-due made = over (isOver (s .message) t) refl (rw (not-settled s t transmit not-due) at made)
 
 -- by its word: a next word leaves the message under way
 good-next : (p : Phase) (s : State) (r : WordRecord) → isUnderWay p ≡ true → isNextWord p s r ≡ true → isUnderWay (nextWord p s r .message .phase) ≡ true
 unfolding nextWord nextData stagedOf movedOf
 good-next Idle s r on good = false≢ on
 good-next Data s r on good = rw good
+good-next Confirmed s r on good = rw good
 good-next First s r on good =
     or-cases (isSecond (s .setup .own) (s .message) r) (awaitsData (s .message) && isNextData (s .message) r) good
     (λ second. rw second)
@@ -193,11 +205,11 @@ by-event-bad s (Word r) transmit made = by-word-bad (passedOf s (r .time .0) tra
 
 comes-marked : (s : State) (e : Event) (transmit : List ℕ) → ComesToFault s e transmit → marksFault s e transmit ≡ true
 comes-marked s e transmit (by-time made) =
-    let late = by-time-late s (timeOf e) transmit made in
-    rw (late .0, fault-either s e transmit, late .1)
+    let over = by-time-over s (timeOf e) transmit made in
+    rw (over .0, fault-either s e transmit, over .1)
 comes-marked s e transmit (by-word made) =
     let plain : isExempt (s .setup .own) (s .message .command .0) ≡ false = rw (passed-still s (timeOf e) transmit (made .under-way)) at (made .marked) in
-    rw (plain, fault-either s e transmit, by-event-bad s e transmit made) (or-true (isLate (s .message) (timeOf e)))
+    rw (plain, fault-either s e transmit, by-event-bad s e transmit made) (or-true (isOver (s .message) (timeOf e)))
 
 pub fault-exactly : FaultExactly
 fault-exactly s e transmit = (marked-comes s e transmit, comes-marked s e transmit)

@@ -8,7 +8,7 @@ use Rattle.terminal.specs.Messages.{isUnderWay, isOn, awaitsData, isNextData, i
 use Rattle.terminal.specs.Rules.{faultyOf, rule3, begunOf, rule4, stagedOf, movedOf, nextData, nextWord, rule5, rules3to6}
 use Rattle.terminal.specs.declared.states.SpacingFault.{SpacingFault}
 use Rattle.terminal.specs.declared.states.Phase.{Phase}
-use Rattle.terminal.specs.declared.states.Phase.the-variants.{Idle, First, Pledged, Data}
+use Rattle.terminal.specs.declared.states.Phase.the-variants.{Idle, First, Pledged, Confirmed, Data}
 use Rattle.terminal.specs.declared.states.Message.{Message}
 use Rattle.terminal.specs.declared.states.Terminal.{Terminal as State}
 use Rattle.history.proofs.Tests.{cond-cases, and-left}
@@ -30,6 +30,7 @@ module _ {A : Type 0} (part : State → A)
   unfolding nextWord
   next-keeps Idle = refl
   next-keeps Data = data-keeps
+  next-keeps Confirmed = data-keeps
   next-keeps First = cond-cases same (isSecond (s .setup .own) (s .message) r) (λ second. moved s _) (λ other. data-keeps)
   next-keeps (Pledged address) = cond-cases same (isStatusFrom address r) (λ status. moved s _) (λ other. faulty s _)
 
@@ -57,6 +58,7 @@ module _ (P : Message → Type 0) (none : P noMessage) (r : WordRecord)
   unfolding nextWord faultyOf
   next-holds Idle on = h
   next-holds Data on = data-holds on
+  next-holds Confirmed on = data-holds on
   next-holds First on = cond-cases holds (isSecond (s .setup .own) (s .message) r) (λ second. moved (s .message) _ on h) (λ other. data-holds on)
   next-holds (Pledged address) on = cond-cases holds (isStatusFrom address r) (λ from. moved (s .message) _ on h) (λ other. none)
 

@@ -6,7 +6,7 @@ use mathlib.Core.List.{List}
 use Rattle.records.specs.declared.forms.WordRecord.{WordRecord}
 use Rattle.terminal.specs.States.{noMessage, atTime}
 use Rattle.terminal.specs.Commands.{isOwn}
-use Rattle.terminal.specs.Messages.{isUnderWay, awaitsData, isDue, isLate}
+use Rattle.terminal.specs.Messages.{isUnderWay, awaitsData, isDue, isLate, awaitsFirst, isOverdue, isOver}
 use Rattle.terminal.specs.Rules.{settledOf, rule1, faultyOf, rule2}
 use Rattle.terminal.specs.Events.{passedOf}
 use Rattle.terminal.specs.declared.states.Held.{Held}
@@ -18,7 +18,7 @@ use Rattle.history.proofs.Tests.{false≢, cond-cases}
 pub passed-setup : (s : State) (t : ℕ) (transmit : List ℕ) → passedOf s t transmit .setup ≡ s .setup
 unfolding passedOf rule1 rule2 settledOf faultyOf
 passed-setup s t transmit =
-    cond-cases same (isLate (rule1 s t transmit .message) t) (λ late. first) (λ in-time. first)
+    cond-cases same (isOver (rule1 s t transmit .message) t) (λ over. first) (λ in-time. first)
   where
     same : State → Type 0
     same x = x .setup ≡ s .setup
@@ -34,14 +34,14 @@ passed-own s t transmit r = rw (passed-setup s t transmit)
 pub passed-message : (P : Message → Type 0) → P noMessage → (s : State) (t : ℕ) (transmit : List ℕ) → P (s .message) → P (passedOf s t transmit .message)
 unfolding passedOf rule1 rule2 settledOf faultyOf
 passed-message P none s t transmit h =
-    cond-cases (λ (x : State). P (x .message)) (isLate (rule1 s t transmit .message) t) (λ late. none)
+    cond-cases (λ (x : State). P (x .message)) (isOver (rule1 s t transmit .message) t) (λ over. none)
     (λ in-time. cond-cases (λ (x : State). P (x .message)) (isDue (s .message) t) (λ due. none) (λ not-due. h))
 
 -- rule 2 changes neither the sending nor which transmitters are shut
 pub passed-sending : (s : State) (t : ℕ) (transmit : List ℕ) → passedOf s t transmit .sending ≡ rule1 s t transmit .sending
 unfolding passedOf rule2 faultyOf
 passed-sending s t transmit =
-    cond-cases (λ (x : State). x .sending ≡ rule1 s t transmit .sending) (isLate (rule1 s t transmit .message) t) (λ late. refl) (λ in-time. refl)
+    cond-cases (λ (x : State). x .sending ≡ rule1 s t transmit .sending) (isOver (rule1 s t transmit .message) t) (λ over. refl) (λ in-time. refl)
 
 shut-either : (shut : List Bool) (b : Bool) (x y : Held) → x .shut ≡ shut → y .shut ≡ shut → cond b x y .shut ≡ shut
 shut-either shut b x y p q = cond-cases (λ (h : Held). h .shut ≡ shut) b (λ e. p) (λ e. q)
@@ -50,24 +50,24 @@ pub passed-shut : (s : State) (t : ℕ) (transmit : List ℕ) → passedOf s t t
 unfolding passedOf rule2 faultyOf
 passed-shut s t transmit =
     let x : State = rule1 s t transmit in
-    cond-cases (λ (y : State). y .held .shut ≡ x .held .shut) (isLate (x .message) t)
-    (λ late. search shut-either)
+    cond-cases (λ (y : State). y .held .shut ≡ x .held .shut) (isOver (x .message) t)
+    (λ over. search shut-either)
     (λ in-time. refl)
 
--- where nothing is due and nothing late they set the time alone
-pub still : (s : State) (t : ℕ) (transmit : List ℕ) → isDue (s .message) t ≡ false → isLate (s .message) t ≡ false → passedOf s t transmit ≡ atTime s t
+-- where nothing is due and no time over they set the time alone
+pub still : (s : State) (t : ℕ) (transmit : List ℕ) → isDue (s .message) t ≡ false → isOver (s .message) t ≡ false → passedOf s t transmit ≡ atTime s t
 unfolding passedOf rule1 rule2
-still s t transmit due late = rw (due, late)
+still s t transmit due over = rw (due, over)
 
--- a message that is under way after them was neither due nor late
+-- a message that is under way after them was not due, and its time not over
 pub passed-under-way : (s : State) (t : ℕ) (transmit : List ℕ) → isUnderWay (passedOf s t transmit .message .phase) ≡ true
-    → (isDue (s .message) t ≡ false) × (isLate (s .message) t ≡ false)
-unfolding passedOf rule1 settledOf rule2 faultyOf isLate awaitsData
+    → (isDue (s .message) t ≡ false) × (isOver (s .message) t ≡ false)
+unfolding passedOf rule1 settledOf rule2 faultyOf isLate awaitsData isOverdue awaitsFirst
 passed-under-way s t transmit =
-    let Fact : Type 0 = (isDue (s .message) t ≡ false) × (isLate (s .message) t ≡ false) in
+    let Fact : Type 0 = (isDue (s .message) t ≡ false) × (isOver (s .message) t ≡ false) in
     cond-cases (λ (x : State). isUnderWay (rule2 x t .message .phase) ≡ true → Fact) (isDue (s .message) t) (λ due h. false≢ h)
     (λ not-due.
-    cond-cases (λ (x : State). isUnderWay (x .message .phase) ≡ true → Fact) (isLate (s .message) t) (λ late h. false≢ h)
+    cond-cases (λ (x : State). isUnderWay (x .message .phase) ≡ true → Fact) (isOver (s .message) t) (λ over h. false≢ h)
     (λ in-time h. (not-due, in-time)))
 
 -- a message that is due is ended
@@ -75,4 +75,4 @@ pub due-ends : (s : State) (t : ℕ) (transmit : List ℕ) → isDue (s .message
 unfolding passedOf rule1 rule2 settledOf faultyOf
 due-ends s t transmit due =
     rw due
-    (cond-cases (λ (x : State). x .message ≡ noMessage) (isLate noMessage t) (λ late. refl) (λ in-time. refl))
+    (cond-cases (λ (x : State). x .message ≡ noMessage) (isOver noMessage t) (λ over. refl) (λ in-time. refl))

@@ -1,7 +1,7 @@
 -- A time mark directly before an event is not seen after it. Assumes nothing.
 use mathlib.Core.Path.{_≡_, refl, sym, ap, _∙_}
 use Prim.Native.Nat.{ℕ, _+_, _≤_}
-use mathlib.Core.Bool.{Bool, true, false}
+use mathlib.Core.Bool.{Bool, true, false, _||_, or-true}
 use mathlib.Core.List.{List}
 use mathlib.Core.Logic.{_⊎_, inl, inr}
 use native.Mathlib.Omega.{arith}
@@ -14,12 +14,11 @@ use Rattle.words.specs.declared.times.Moment.{Moment}
 use Rattle.words.proofs.Truth.{and-both}
 use Rattle.words.proofs.Counts.{words-most}
 use Rattle.terminal.specs.States.{noMessage, atTime}
-use Rattle.terminal.specs.Messages.{isUnderWay, awaitsData, isWhole, isDue, isLate}
+use Rattle.terminal.specs.Messages.{isUnderWay, awaitsData, isWhole, isDue, isLate, firstWordDistance, awaitsFirst, isOverdue, isOver}
 use Rattle.terminal.specs.Settling.{settledStatus, modeWords, legalReply, replyOf, storesData, firstPlace, storedOf, isWithheld, noAnswer, answerOf, sendingOf}
 use Rattle.terminal.specs.Effects.{heldAfter}
-use Rattle.terminal.specs.Rules.{statusNow, replyNow, rule1Answer, rule1Receive, settledOf, rule1, faultyOf, rule2}
+use Rattle.terminal.specs.Rules.{statusNow, replyNow, rule1Answer, rule1Receive, settledOf, rule1, faultyOf, timeFault, rule2}
 use Rattle.terminal.specs.Events.{timeOf, passedOf, takenOf, cutOf, happensOf, eventOf, eventReceive}
-use Rattle.terminal.specs.declared.states.SpacingFault.the-variants.{Separated}
 use Rattle.terminal.specs.declared.states.Message.{Message}
 use Rattle.terminal.specs.declared.states.Terminal.{Terminal as State}
 use Rattle.terminal.specs.declared.events.Event.{Event}
@@ -27,13 +26,13 @@ use Rattle.terminal.specs.declared.events.Event.the-variants.{Mark}
 use Rattle.terminal.specs.declared.events.Happened.{Happened}
 use Rattle.history.specs.Calls.{isAccepted}
 use Rattle.history.specs.Demands.{Unseen, MarksDoNotMatter}
-use Rattle.history.proofs.Tests.{cond-cases}
+use Rattle.history.proofs.Tests.{cond-cases, or-cases}
 use Rattle.history.proofs.Phases.{due-under-way}
 use Rattle.history.proofs.Steps.{accepted, accepted-table, refused, refused-table, shown, accepts}
 use Rattle.history.proofs.Passing.{still, due-ends}
-use Rattle.history.proofs.Faults.{late-not-due, late-faulty}
+use Rattle.history.proofs.Faults.{over-not-due, over-faulty}
 
--- ---- what is due, or late, is so later too
+-- ---- what is due, or over, is so later too
 
 due-later : (m : Message) (t u : ℕ) → t ≤ u → isDue m t ≡ true → isDue m u ≡ true
 unfolding isDue
@@ -49,75 +48,88 @@ late-later m t u later late =
     let passed = ltb-true (m .last .0 + spacingMost) t (parts .1) in
     rw (parts .0, lt-ltb (m .last .0 + spacingMost) u (omega (arith, passed, later)))
 
--- a message is due, or late, or neither
-pub due-or-late : {P : Type 0} (m : Message) (t : ℕ) → (isDue m t ≡ true → P) → (isLate m t ≡ true → P)
-    → (isDue m t ≡ false → isLate m t ≡ false → P)
+overdue-later : (m : Message) (t u : ℕ) → t ≤ u → isOverdue m t ≡ true → isOverdue m u ≡ true
+unfolding isOverdue
+overdue-later m t u later overdue =
+    let parts = and-both (awaitsFirst m) (ltb (m .start .0 + firstWordDistance) t) overdue in
+    let passed = ltb-true (m .start .0 + firstWordDistance) t (parts .1) in
+    rw (parts .0, lt-ltb (m .start .0 + firstWordDistance) u (omega (arith, passed, later)))
+
+over-later : (m : Message) (t u : ℕ) → t ≤ u → isOver m t ≡ true → isOver m u ≡ true
+over-later m t u later over =
+    or-cases (isLate m t) (isOverdue m t) over
+    (λ late. rw (late-later m t u later late))
+    (λ overdue. rw (overdue-later m t u later overdue) (or-true (isLate m u)))
+
+-- a message is due, or its time is over, or neither
+pub due-or-over : {P : Type 0} (m : Message) (t : ℕ) → (isDue m t ≡ true → P) → (isOver m t ≡ true → P)
+    → (isDue m t ≡ false → isOver m t ≡ false → P)
     → P
-due-or-late {P} m t settles faults waits = go (isDue m t) refl (isLate m t) refl
+due-or-over {P} m t settles faults waits = go (isDue m t) refl (isOver m t) refl
   where
-    go : (a : Bool) → isDue m t ≡ a → (b : Bool) → isLate m t ≡ b → P
-    go true due b late = settles due
-    go false not-due true late = faults late
+    go : (a : Bool) → isDue m t ≡ a → (b : Bool) → isOver m t ≡ b → P
+    go true due b over = settles due
+    go false not-due true over = faults over
     go false not-due false in-time = waits not-due in-time
 
--- where none is under way nothing is due or late, and time alone passes
+-- where none is under way nothing is due or over, and time alone passes
 none-due : (m : Message) (u : ℕ) → m ≡ noMessage → isDue m u ≡ false
 unfolding isDue isWhole
 none-due m u idle = ap (λ (x : Message). isDue x u) idle
 
-none-late : (m : Message) (u : ℕ) → m ≡ noMessage → isLate m u ≡ false
-unfolding isLate awaitsData
-none-late m u idle = ap (λ (x : Message). isLate x u) idle
+none-over : (m : Message) (u : ℕ) → m ≡ noMessage → isOver m u ≡ false
+unfolding isLate awaitsData isOverdue awaitsFirst
+none-over m u idle = ap (λ (x : Message). isOver x u) idle
 
 idle-passed : (x : State) (t u : ℕ) (transmit : List ℕ) → x .message ≡ noMessage → passedOf (atTime x t) u transmit ≡ atTime x u
-idle-passed x t u transmit idle = still (atTime x t) u transmit (none-due (x .message) u idle) (none-late (x .message) u idle)
+idle-passed x t u transmit idle = still (atTime x t) u transmit (none-due (x .message) u idle) (none-over (x .message) u idle)
 
 -- ---- rules 1 and 2, once and again
 
 module _ (s : State) (transmit : List ℕ) where
   pub due-passed : (t : ℕ) → isDue (s .message) t ≡ true → passedOf s t transmit ≡ atTime (settledOf s transmit) t
-  unfolding passedOf rule1 rule2 settledOf isLate awaitsData
+  unfolding passedOf rule1 rule2 settledOf isLate awaitsData isOverdue awaitsFirst
   due-passed t due = rw due
 
-  pub late-passed : (t : ℕ) → isLate (s .message) t ≡ true → passedOf s t transmit ≡ atTime (faultyOf s Separated) t
+  pub over-passed : (t : ℕ) → isOver (s .message) t ≡ true → passedOf s t transmit ≡ atTime (faultyOf s (timeFault (s .message))) t
   unfolding passedOf
-  late-passed t late = let faulty = late-faulty s t transmit late in rw (faulty .0, faulty .1)
+  over-passed t over = let faulty = over-faulty s t transmit over in rw (faulty .0, faulty .1)
 
   -- nothing is under way after the one or the other
   settled-idle : settledOf s transmit .message ≡ noMessage
   unfolding settledOf
   settled-idle = refl
 
-  faulty-idle : faultyOf s Separated .message ≡ noMessage
+  faulty-idle : faultyOf s (timeFault (s .message)) .message ≡ noMessage
   unfolding faultyOf
   faulty-idle = refl
 
-  pub late-ends : (t : ℕ) → isLate (s .message) t ≡ true → passedOf s t transmit .message ≡ noMessage
-  late-ends t late = ap (λ (x : State). x .message) (late-passed t late) ∙ faulty-idle
+  pub over-ends : (t : ℕ) → isOver (s .message) t ≡ true → passedOf s t transmit .message ≡ noMessage
+  over-ends t over = ap (λ (x : State). x .message) (over-passed t over) ∙ faulty-idle
 
-  -- and none of what is under way after both is late
-  pub passed-in-time : (t : ℕ) → isLate (passedOf s t transmit .message) t ≡ false
+  -- and the time of what is under way after both is not over
+  pub passed-in-time : (t : ℕ) → isOver (passedOf s t transmit .message) t ≡ false
   passed-in-time t =
-      due-or-late (s .message) t
-      (λ due. none-late _ t (due-ends s t transmit due))
-      (λ late. none-late _ t (late-ends t late))
-      (λ not-due in-time. ap (λ (x : State). isLate (x .message) t) (still s t transmit not-due in-time) ∙ in-time)
+      due-or-over (s .message) t
+      (λ due. none-over _ t (due-ends s t transmit due))
+      (λ over. none-over _ t (over-ends t over))
+      (λ not-due in-time. ap (λ (x : State). isOver (x .message) t) (still s t transmit not-due in-time) ∙ in-time)
 
   -- what they do does not look at the time of the last event
   settled-same : (t u : ℕ) → atTime (settledOf (atTime s t) transmit) u ≡ atTime (settledOf s transmit) u
   unfolding settledOf heldAfter sendingOf isWithheld settledStatus replyOf legalReply modeWords
   settled-same t u = refl
 
-  faulty-same : (t u : ℕ) → atTime (faultyOf (atTime s t) Separated) u ≡ atTime (faultyOf s Separated) u
+  faulty-same : (t u : ℕ) → atTime (faultyOf (atTime s t) (timeFault (s .message))) u ≡ atTime (faultyOf s (timeFault (s .message))) u
   unfolding faultyOf
   faulty-same t u = refl
 
 module _ (s : State) (transmit : List ℕ) where
   again : (t u : ℕ) → passedOf (atTime s t) u transmit ≡ passedOf s u transmit
   again t u =
-      due-or-late (s .message) u
+      due-or-over (s .message) u
       (λ due. due-passed (atTime s t) transmit u due ∙ settled-same s transmit t u ∙ sym (due-passed s transmit u due))
-      (λ late. late-passed (atTime s t) transmit u late ∙ faulty-same s transmit t u ∙ sym (late-passed s transmit u late))
+      (λ over. over-passed (atTime s t) transmit u over ∙ faulty-same s transmit t u ∙ sym (over-passed s transmit u over))
       (λ not-due in-time. still (atTime s t) u transmit not-due in-time ∙ sym (still s u transmit not-due in-time))
 
 module _ (s : State) (transmit : List ℕ) (t u : ℕ) (later : t ≤ u) where
@@ -126,18 +138,18 @@ module _ (s : State) (transmit : List ℕ) (t u : ℕ) (later : t ≤ u) where
 
   passed-twice : passedOf (passedOf s t transmit) u transmit ≡ passedOf s u transmit
   passed-twice =
-      due-or-late (s .message) t
+      due-or-over (s .message) t
       (λ due.
       ap (λ (x : State). passedOf x u transmit) (due-passed s transmit t due) ∙ idle-passed (settledOf s transmit) t u transmit (settled-idle s transmit)
       ∙ sym (due-passed s transmit u (due-later (s .message) t u later due)))
-      (λ late.
-      ap (λ (x : State). passedOf x u transmit) (late-passed s transmit t late) ∙ idle-passed (faultyOf s Separated) t u transmit (faulty-idle s transmit)
-      ∙ sym (late-passed s transmit u (late-later (s .message) t u later late)))
+      (λ over.
+      ap (λ (x : State). passedOf x u transmit) (over-passed s transmit t over) ∙ idle-passed (faultyOf s (timeFault (s .message))) t u transmit (faulty-idle s transmit)
+      ∙ sym (over-passed s transmit u (over-later (s .message) t u later over)))
       (λ not-due in-time. ap (λ (x : State). passedOf x u transmit) (still s t transmit not-due in-time) ∙ again s transmit t u)
 
-  -- a message that is late is not due then, nor later
-  late-silent : isLate (s .message) t ≡ true → isDue (s .message) u ≡ false
-  late-silent late = late-not-due (s .message) u (late-later (s .message) t u later late)
+  -- a message whose time is over is not due then, nor later
+  over-silent : isOver (s .message) t ≡ true → isDue (s .message) u ≡ false
+  over-silent over = over-not-due (s .message) u (over-later (s .message) t u later over)
 
   -- ---- the answer is carried once
 
@@ -160,10 +172,10 @@ module _ (s : State) (transmit : List ℕ) (t u : ℕ) (later : t ≤ u) where
 
   once : Once
   once =
-      due-or-late (s .message) t
+      due-or-over (s .message) t
       (λ due. inr (given t due ∙ sym (given u (due-later (s .message) t u later due)), silent passed u (none-due _ u (due-ends s t transmit due))))
-      (λ late.
-      inl (silent s t (late-not-due (s .message) t late), silent passed u (none-due _ u (late-ends s transmit t late)) ∙ sym (silent s u (late-silent late))))
+      (λ over.
+      inl (silent s t (over-not-due (s .message) t over), silent passed u (none-due _ u (over-ends s transmit t over)) ∙ sym (silent s u (over-silent over))))
       (λ not-due in-time.
       inl (silent s t not-due, ap (λ (x : State). rule1Answer x u transmit) (still s t transmit not-due in-time) ∙ same-answer))
 
@@ -184,12 +196,12 @@ module _ (s : State) (transmit : List ℕ) (t u : ℕ) (later : t ≤ u) where
 
   table-twice : (receive : List ℕ) → rule1Receive (passedOf s t transmit) u (rule1Receive s t receive) ≡ rule1Receive s u receive
   table-twice receive =
-      due-or-late (s .message) t
+      due-or-over (s .message) t
       (λ due.
       unwritten passed u _ (none-due _ u (due-ends s t transmit due)) ∙ written receive t due ∙ sym (written receive u (due-later (s .message) t u later due)))
-      (λ late.
-      unwritten passed u _ (none-due _ u (late-ends s transmit t late)) ∙ unwritten s t receive (late-not-due (s .message) t late)
-      ∙ sym (unwritten s u receive (late-silent late)))
+      (λ over.
+      unwritten passed u _ (none-due _ u (over-ends s transmit t over)) ∙ unwritten s t receive (over-not-due (s .message) t over)
+      ∙ sym (unwritten s u receive (over-silent over)))
       (λ not-due in-time.
       ap (rule1Receive passed u) (unwritten s t receive not-due)
       ∙ ap (λ (x : State). rule1Receive x u receive) (still s t transmit not-due in-time) ∙ same-table receive)

@@ -12,16 +12,15 @@ use Rattle.records.specs.Records.{inRange}
 use Rattle.records.specs.declared.forms.WordRecord.{WordRecord}
 use Rattle.terminal.specs.States.{ownOf, setupOf, freshOf, withHost, withMessage, atTime}
 use Rattle.terminal.specs.Commands.{isOwn}
-use Rattle.terminal.specs.Messages.{isUnderWay, isOn, awaitsData, isDue, isLate, isNextData, isSecond, isStatusFrom}
+use Rattle.terminal.specs.Messages.{isUnderWay, isOn, awaitsData, isDue, isOver, isNextData, isSecond, isStatusFrom}
 use Rattle.terminal.specs.Settling.{sendingOf}
 use Rattle.terminal.specs.Rules.{replyNow, settledOf, rule1, faultyOf, rule2, rule3, rule4, stagedOf, movedOf, nextData, nextWord, rule5, rules3to6}
 use Rattle.terminal.specs.Events.{eventOf, happensOf, setUpRefusal, setUpOf, timeOf, isInRange, passedOf, takenOf, selftestCleared, restartedOf}
 use Rattle.terminal.specs.declared.states.Host.{Host}
 use Rattle.terminal.specs.declared.states.Setup.{Setup}
 use Rattle.terminal.specs.declared.states.SpacingFault.{SpacingFault}
-use Rattle.terminal.specs.declared.states.SpacingFault.the-variants.{Separated}
 use Rattle.terminal.specs.declared.states.Phase.{Phase}
-use Rattle.terminal.specs.declared.states.Phase.the-variants.{Idle, First, Pledged, Data}
+use Rattle.terminal.specs.declared.states.Phase.the-variants.{Idle, First, Pledged, Confirmed, Data}
 use Rattle.terminal.specs.declared.states.Message.{Message}
 use Rattle.terminal.specs.declared.states.Terminal.{Terminal as State}
 use Rattle.terminal.specs.declared.events.Event.{Event}
@@ -110,7 +109,7 @@ module _ (s : State) (h : Sound s) (t : ℕ) (later : s .time .0 ≤ t) (on-cloc
   unfolding passedOf rule1 rule2 faultyOf
   passed-sound transmit =
       let settled : P (rule1 s t transmit) = cond-cases P (isDue (s .message) t) (settled-sound transmit) (λ e. later-sound) in
-      cond-cases P (isLate (rule1 s t transmit .message) t) (λ e. faulty-sound _ settled Separated) (λ e. settled)
+      cond-cases P (isOver (rule1 s t transmit .message) t) (λ e. faulty-sound _ settled _) (λ e. settled)
     where
       P : State → Type 0
       P x = Sound (atTime x t)
@@ -144,10 +143,11 @@ module _ (s : State) (h : Sound s) (r : WordRecord) (at : r .time .0 ≤ s .time
   unfolding nextWord
   next-sound Idle e = h
   next-sound Data e = data-sound
+  next-sound Confirmed e = data-sound
   next-sound First e =
       cond-cases Sound (isSecond (s .setup .own) (s .message) r) (λ f. moved-sound (Pledged (addressOf (r .word))) (ap isOpening e))
       (λ f. data-sound)
-  next-sound (Pledged address) e = cond-cases Sound (isStatusFrom address r) (λ f. moved-sound Data (ap isOpening e)) (λ f. faulty-sound s h _)
+  next-sound (Pledged address) e = cond-cases Sound (isStatusFrom address r) (λ f. moved-sound Confirmed (ap isOpening e)) (λ f. faulty-sound s h _)
 
   -- after any word
   word-sound : inRange r ≡ true → Sound (rules3to6 s r)

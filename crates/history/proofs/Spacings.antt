@@ -10,16 +10,16 @@ use Rattle.words.specs.Words.{sinceOf, spacingLeast, spacingMost, spacingOf, co
 use Rattle.records.specs.declared.forms.WordRecord.{WordRecord}
 use Rattle.terminal.specs.States.{withStatus, noMessage, spacingIn}
 use Rattle.terminal.specs.Commands.{isOwn, isExempt, isLegal}
-use Rattle.terminal.specs.Messages.{isUnderWay, isOn, awaitsData, isDue, isLate, isNextData, isSecond}
+use Rattle.terminal.specs.Messages.{isUnderWay, isOn, isCounting, awaitsData, isWhole, isDue, isLate, firstWordDistance, awaitsFirst, isOverdue, isOver, isNextData, isSecond}
 use Rattle.terminal.specs.Effects.{effectOf, heldAfter}
-use Rattle.terminal.specs.Rules.{settledOf, markedOf, keptBy, faultyOf, rule3, notedStatus, notedCommand, rule4, faultBy, faultIn, nextData, nextWord, rule5, rules3to6}
+use Rattle.terminal.specs.Rules.{settledOf, markedOf, keptBy, faultyOf, timeFault, rule3, notedStatus, notedCommand, rule4, faultBy, faultIn, nextData, nextWord, rule5, rules3to6}
 use Rattle.terminal.specs.Events.{timeOf, setUpOf, passedOf, takenOf}
 use Rattle.terminal.specs.declared.states.Own.{Own}
 use Rattle.terminal.specs.declared.states.SpacingFault.{SpacingFault}
 use Rattle.terminal.specs.declared.states.SpacingFault.the-variants.{None, Overlapping, Separated}
 use Rattle.terminal.specs.declared.states.Held.{Held}
 use Rattle.terminal.specs.declared.states.Phase.{Phase}
-use Rattle.terminal.specs.declared.states.Phase.the-variants.{Idle, First, Pledged, Data}
+use Rattle.terminal.specs.declared.states.Phase.the-variants.{Idle, First, Pledged, Confirmed, Data}
 use Rattle.terminal.specs.declared.states.Message.{Message}
 use Rattle.terminal.specs.declared.states.Terminal.{Terminal as State}
 use Rattle.terminal.specs.declared.events.Event.{Event}
@@ -27,15 +27,15 @@ use Rattle.terminal.specs.declared.events.Event.the-variants.{Mark, Word}
 use Rattle.terminal.specs.declared.events.Happened.{Happened}
 use Rattle.terminal.specs.declared.setups.SetUp.{SetUp}
 use Rattle.history.specs.Calls.{Call, setUp, event, host, clearSelftest, restart, isAccepted, isSetUp, step, run}
-use Rattle.history.specs.States.{isUnderWayOn, isNextWord, isBadWord, noFault, aFault, wordKind, wordFault}
+use Rattle.history.specs.States.{isUnderWayOn, isNextWord, isBadWord, noFault, aFault, wordKind, wordFault, timeKind}
 use Rattle.history.specs.Kinds.{Change, leaves, sets, byFault, isReset, byEvent, changeBy, afterChange, lastKind, AllLeaveKind}
 use Rattle.history.specs.Demands.{SpacingKept, SpacingKeptAfterAnyPast, SpacingLatest, KindAsAMark}
-use Rattle.history.proofs.Tests.{true≢, false≢, cond-cases, or-cases}
+use Rattle.history.proofs.Tests.{true≢, false≢, cond-cases, and-false, or-false, or-cases}
 use Rattle.history.proofs.Steps.{stepped, refused-stays}
 use Rattle.history.proofs.Passing.{still, due-ends}
 use Rattle.history.proofs.Marks.{as-a-mark}
-use Rattle.history.proofs.Faults.{late-not-due, due-in-time, bad-faulty, bad-under-way}
-use Rattle.history.proofs.Polling.{due-or-late, due-passed, late-passed, late-ends, passed-in-time}
+use Rattle.history.proofs.Faults.{over-not-due, due-in-time, bad-faulty, bad-under-way}
+use Rattle.history.proofs.Polling.{due-or-over, due-passed, over-passed, over-ends, passed-in-time}
 
 abbrev kindIn : State → SpacingFault
 kindIn s = spacingIn (s .held)
@@ -117,6 +117,7 @@ next-kind : (p : Phase) (s : State) (r : WordRecord) → isNextWord p s r ≡ tr
 unfolding nextWord nextData
 next-kind Idle s r good = refl
 next-kind Data s r good = rw good refl
+next-kind Confirmed s r good = rw good refl
 next-kind First s r good =
     or-cases (isSecond (s .setup .own) (s .message) r) (awaitsData (s .message) && isNextData (s .message) r) good
     (λ second. rw second refl)
@@ -149,9 +150,9 @@ early-or-spaced last t in-time = go (ltb (sinceOf last t) spacingLeast) refl
     go false not-early = rw (not-early, le-leb (sinceOf last t) spacingMost (omega (arith, in-time))) refl
 
 -- the kind of a bad word is the terminal's own, where nothing is late
-kinds-agree : (m : Message) (r : WordRecord) → isLate m (r .time .0) ≡ false → faultIn m r ≡ wordKind m r
+word-kinds : (m : Message) (r : WordRecord) → isLate m (r .time .0) ≡ false → faultIn m r ≡ wordKind m r
 unfolding faultIn isLate
-kinds-agree m r in-time = go (awaitsData m) refl
+word-kinds m r in-time = go (awaitsData m) refl
   where
     go : (b : Bool) → awaitsData m ≡ b → faultIn m r ≡ wordKind m r
     go true awaits =
@@ -159,17 +160,17 @@ kinds-agree m r in-time = go (awaitsData m) refl
         rw awaits (early-or-spaced (m .last .0) (r .time .0) (ltb-false (m .last .0 + spacingMost) (r .time .0) late))
     go false idle = rw idle refl
 
-word-kind : (s : State) (r : WordRecord) → isLate (s .message) (r .time .0) ≡ false
+word-kind : (s : State) (r : WordRecord) → isOver (s .message) (r .time .0) ≡ false
     → kindIn (rules3to6 s r) ≡ afterChange (kindIn s) (byFault (wordFault s (Word r)))
 word-kind s r in-time = go (isBadWord s r) refl
   where
     go : (b : Bool) → isBadWord s r ≡ b → kindIn (rules3to6 s r) ≡ afterChange (kindIn s) (byFault (cond b (aFault (wordKind (s .message) r)) noFault))
     go true bad =
         ap kindIn (bad-faulty s r bad) ∙ faulty-kind s (faultIn (s .message) r)
-        ∙ ap (λ (kind : SpacingFault). afterChange (kindIn s) (byFault (aFault kind))) (kinds-agree (s .message) r in-time)
+        ∙ ap (λ (kind : SpacingFault). afterChange (kindIn s) (byFault (aFault kind))) (or-false (isLate (s .message) (r .time .0)) (isOverdue (s .message) (r .time .0)) in-time (λ not-late not-overdue. word-kinds (s .message) r not-late))
     go false good = good-kind s r good
 
-taken-kind : (s : State) (e : Event) → isLate (s .message) (timeOf e) ≡ false → kindIn (takenOf s e) ≡ afterChange (kindIn s) (byFault (wordFault s e))
+taken-kind : (s : State) (e : Event) → isOver (s .message) (timeOf e) ≡ false → kindIn (takenOf s e) ≡ afterChange (kindIn s) (byFault (wordFault s e))
 taken-kind s (Mark t) in-time = refl
 taken-kind s (Word r) in-time = word-kind s r in-time
 
@@ -182,6 +183,38 @@ idle-sound s (Word r) idle = go (isBadWord s r) refl
     go true bad = false≢ (ap (λ (m : Message). isUnderWay (m .phase)) (sym idle) ∙ bad-under-way s r bad)
     go false good = refl
 
+-- ---- time
+
+-- a message whose time is over, and that counts its data words, still awaits one
+over-awaits : (m : Message) (t : ℕ) → isCounting (m .phase) ≡ true → isOver m t ≡ true → awaitsData m ≡ true
+unfolding isLate isOverdue awaitsFirst awaitsData isWhole
+over-awaits m t counts over =
+    or-cases (isLate m t) (isOverdue m t) over
+    (λ late. search (and-left, late))
+    (λ overdue.
+    let missing : leb (awaitedOf (m .command .0)) (m .got) ≡ false = rw counts at (not-true (isWhole m) (search (and-left, and-right, overdue))) in
+    rw (counts, lt-ltb (m .got) (awaitedOf (m .command .0)) (leb-false (awaitedOf (m .command .0)) (m .got) missing)))
+
+-- one that awaits a data word is not whole
+awaits-open : (m : Message) → awaitsData m ≡ true → isWhole m ≡ false
+unfolding awaitsData isWhole
+awaits-open m awaits =
+    let counts : isCounting (m .phase) ≡ true = search (and-left, awaits) in
+    let less : ltb (m .got) (awaitedOf (m .command .0)) ≡ true = search (and-right, awaits) in
+    rw (counts, lt-leb (awaitedOf (m .command .0)) (m .got) (ltb-true (m .got) (awaitedOf (m .command .0)) less))
+
+-- the kind of a fault by time is the terminal's own
+time-kinds : (m : Message) (t : ℕ) → isOver m t ≡ true → timeFault m ≡ timeKind (m .phase) m
+unfolding timeFault
+time-kinds m t over = go (m .phase) refl
+  where
+    go : (p : Phase) → m .phase ≡ p → timeFault m ≡ timeKind p m
+    go Idle is = ?
+    go First is = ?
+    go (Pledged address) is = ?
+    go Confirmed is = ?
+    go Data is = ?
+
 -- ---- an event
 
 reset-if : (b : Bool) (kind : SpacingFault) → afterChange kind (cond b (sets None) leaves) ≡ cond b None kind
@@ -190,7 +223,7 @@ reset-if false kind = refl
 
 event-kind : (s : State) (e : Event) (transmit : List ℕ)
     → kindIn (takenOf (passedOf s (timeOf e) transmit) e) ≡ afterChange (kindIn s) (byEvent s e transmit)
-event-kind s e transmit = taken-kind (passedOf s (timeOf e) transmit) e (passed-in-time s transmit (timeOf e)) ∙ due-or-late (s .message) (timeOf e) settles faults waits
+event-kind s e transmit = taken-kind (passedOf s (timeOf e) transmit) e (passed-in-time s transmit (timeOf e)) ∙ due-or-over (s .message) (timeOf e) settles faults waits
   where
     Fact : Type 0
     Fact = afterChange (kindIn (passedOf s (timeOf e) transmit)) (byFault (wordFault (passedOf s (timeOf e) transmit) e))
@@ -202,13 +235,14 @@ event-kind s e transmit = taken-kind (passedOf s (timeOf e) transmit) e (passed-
         rw (nothing, due, due-in-time (s .message) (timeOf e) due)
         (ap kindIn (due-passed s transmit (timeOf e) due) ∙ settled-kind s transmit ∙ sym (reset-if (isReset s) (kindIn s)))
 
-    faults : isLate (s .message) (timeOf e) ≡ true → Fact
-    faults late =
-        let nothing = idle-sound (passedOf s (timeOf e) transmit) e (late-ends s transmit (timeOf e) late) in
-        rw (nothing, late-not-due (s .message) (timeOf e) late, late)
-        (ap kindIn (late-passed s transmit (timeOf e) late) ∙ faulty-kind s Separated)
+    faults : isOver (s .message) (timeOf e) ≡ true → Fact
+    faults over =
+        let nothing = idle-sound (passedOf s (timeOf e) transmit) e (over-ends s transmit (timeOf e) over) in
+        rw (nothing, over-not-due (s .message) (timeOf e) over, over)
+        (ap kindIn (over-passed s transmit (timeOf e) over) ∙ faulty-kind s (timeFault (s .message))
+        ∙ ap (λ (kind : SpacingFault). afterChange (kindIn s) (byFault (aFault kind))) (time-kinds (s .message) (timeOf e) over))
 
-    waits : isDue (s .message) (timeOf e) ≡ false → isLate (s .message) (timeOf e) ≡ false → Fact
+    waits : isDue (s .message) (timeOf e) ≡ false → isOver (s .message) (timeOf e) ≡ false → Fact
     waits not-due in-time = rw (not-due, in-time) (ap (λ (y : State). afterChange (kindIn y) (byFault (wordFault (passedOf s (timeOf e) transmit) e))) (still s (timeOf e) transmit not-due in-time))
 
 -- ---- a call, and any calls

@@ -9,7 +9,7 @@ use Rattle.words.specs.Words.{addressOf, codeOf, isTransmit, isMode, awaitedOf}
 use Rattle.records.specs.declared.forms.WordRecord.{WordRecord}
 use Rattle.terminal.specs.States.{withStatus, withMessage}
 use Rattle.terminal.specs.Commands.{isOwn, isExempt, isLegal}
-use Rattle.terminal.specs.Messages.{isUnderWay, isOn, awaitsData, isDue, isLate, isNextData, isSecond, isStatusFrom}
+use Rattle.terminal.specs.Messages.{isUnderWay, isOn, awaitsData, isDue, isOver, isNextData, isSecond, isStatusFrom}
 use Rattle.terminal.specs.Settling.{settledStatus}
 use Rattle.terminal.specs.Effects.{effectOf, heldAfter}
 use Rattle.terminal.specs.Rules.{statusNow, settledOf, rule1, faultyOf, rule2, rule3, notedStatus, notedCommand, begunOf, rule4, stagedOf, movedOf, nextData, nextWord, rule5, rules3to6}
@@ -18,7 +18,7 @@ use Rattle.terminal.specs.declared.states.Own.{Own}
 use Rattle.terminal.specs.declared.states.SpacingFault.{SpacingFault}
 use Rattle.terminal.specs.declared.states.Held.{Held}
 use Rattle.terminal.specs.declared.states.Phase.{Phase}
-use Rattle.terminal.specs.declared.states.Phase.the-variants.{Idle, First, Pledged, Data}
+use Rattle.terminal.specs.declared.states.Phase.the-variants.{Idle, First, Pledged, Confirmed, Data}
 use Rattle.terminal.specs.declared.states.Message.{Message}
 use Rattle.terminal.specs.declared.states.Setup.{Setup}
 use Rattle.terminal.specs.declared.states.Terminal.{Terminal as State}
@@ -27,7 +27,7 @@ use Rattle.terminal.specs.declared.events.Event.the-variants.{Mark, Word}
 use Rattle.history.specs.Calls.{Call, setUp, event, host, clearSelftest, restart, isAccepted, isSetUp, isRefused, step, run}
 use Rattle.history.specs.Courses.{ignores, isIgnored, leavesStatus, AllLeaveStatus}
 use Rattle.history.proofs.Tests.{false≢, cond-cases, and-left, and-right, or-cases}
-use Rattle.history.proofs.Phases.{due-under-way, late-under-way}
+use Rattle.history.proofs.Phases.{due-under-way, over-under-way}
 use Rattle.history.proofs.Keeping.{kept-same}
 use Rattle.history.proofs.Steps.{stepped, refused-stays, refusal-keeps}
 
@@ -104,7 +104,7 @@ module _ {setup : Setup} {status : ℕ} where
       cond-cases (Standing setup status) (isDue (s .message) t) (λ due. settled-stands s transmit st (due-under-way (s .message) t due)) (λ not-due. st) in
       let x : State = rule1 s t transmit in
       let both : Standing setup status (rule2 x t) =
-      cond-cases (Standing setup status) (isLate (x .message) t) (λ late. faulty-stands x _ first (late-under-way (x .message) t late)) (λ in-time. first) in
+      cond-cases (Standing setup status) (isOver (x .message) t) (λ over. faulty-stands x _ first (over-under-way (x .message) t over)) (λ in-time. first) in
       record { same = both .same; holds = both .holds; passing = both .passing }
 
   -- the next word of an exempt command leaves it, and so does a word that is not
@@ -123,10 +123,11 @@ module _ {setup : Setup} {status : ℕ} where
       go : (p : Phase) → Standing setup status (nextWord p s r)
       go Idle = st
       go Data = data-stands
+      go Confirmed = data-stands
       go First = cond-cases (Standing setup status) (isSecond (s .setup .own) (s .message) r)
           (λ second. moves (movedOf (s .message) (Pledged (addressOf (r .word))) r) refl) (λ other. data-stands)
       go (Pledged address) = cond-cases (Standing setup status) (isStatusFrom address r)
-          (λ from. moves (movedOf (s .message) Data r) refl) (λ other. faulty-stands s _ st on)
+          (λ from. moves (movedOf (s .message) Confirmed r) refl) (λ other. faulty-stands s _ st on)
 
   -- an exempt command leaves it, and is under way then
   begun-stands : (s : State) (r : WordRecord) → Standing setup status s → isExempt (s .setup .own) (r .word) ≡ true → Standing setup status (rule4 s r)

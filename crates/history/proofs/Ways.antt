@@ -13,13 +13,13 @@ use Rattle.words.proofs.Truth.{and-both}
 use Rattle.records.specs.declared.forms.WordRecord.{WordRecord}
 use Rattle.terminal.specs.States.{withSelftest, noSending, withMessage, atTime}
 use Rattle.terminal.specs.Commands.{isValidRecord, isOwn}
-use Rattle.terminal.specs.Messages.{isUnderWay, isOn, isCounting, awaitsData, isWhole, isDue, isLate, isSending, isNextData, isSecond}
+use Rattle.terminal.specs.Messages.{isUnderWay, isOn, isCounting, awaitsData, isWhole, isDue, isLate, isBetween, awaitsFirst, isOverdue, isOver, isSending, isNextData, isSecond}
 use Rattle.terminal.specs.Settling.{noAnswer}
 use Rattle.terminal.specs.Rules.{rule1Answer, stagedOf, nextData, nextWord, rule5, rules3to6}
 use Rattle.terminal.specs.Events.{timeOf, passedOf, takenOf, happensOf, eventOf}
 use Rattle.terminal.specs.declared.states.Own.{Own}
 use Rattle.terminal.specs.declared.states.Phase.{Phase}
-use Rattle.terminal.specs.declared.states.Phase.the-variants.{Idle, First, Pledged, Data}
+use Rattle.terminal.specs.declared.states.Phase.the-variants.{Idle, First, Pledged, Confirmed, Data}
 use Rattle.terminal.specs.declared.states.Message.{Message}
 use Rattle.terminal.specs.declared.states.Sending.{Sending}
 use Rattle.terminal.specs.declared.states.Terminal.{Terminal as State}
@@ -45,6 +45,7 @@ pub record Way (begun : State) (m : Message) (s : State) : Type 0 where
 -- a message on that bus, begun by that command word, its last word at that time, with those data words
 pub record Gathered (bus command latest : ℕ) (words : List ℕ) (m : Message) : Type 0 where
   pub counts : isCounting (m .phase) ≡ true
+  pub direct : isBetween (m .phase) ≡ false
   pub on : m .bus ≡ bus
   pub asked : m .command .0 ≡ command
   pub last : m .last .0 ≡ latest
@@ -65,10 +66,14 @@ module _ {bus command latest : ℕ} {words : List ℕ} {m : Message} (g : Gather
   not-due [] t all calm = rw (g .last, lt-leb (latest + dueDistance) t calm) (and-false (isCounting (m .phase) && leb (awaitedOf (m .command .0)) (m .got)))
   not-due (x ∷ rest) t all calm = rw (g .counts, g .asked, g .got, lt-leb (awaitedOf command) (length words) (omega arith))
 
-  pub not-late : (rest : List ℕ) (t : ℕ) → length words + length rest ≡ awaitedOf command → Calm rest latest t → isLate m t ≡ false
+  not-late : (rest : List ℕ) (t : ℕ) → length words + length rest ≡ awaitedOf command → Calm rest latest t → isLate m t ≡ false
   unfolding isLate awaitsData
   not-late [] t all calm = rw (g .counts, g .asked, g .got, le-ltb (length words) (awaitedOf command) (omega arith))
   not-late (x ∷ rest) t all calm = rw (g .last, le-ltb (latest + spacingMost) t calm) (and-false (isCounting (m .phase) && ltb (m .got) (awaitedOf (m .command .0))))
+
+  pub not-over : (rest : List ℕ) (t : ℕ) → length words + length rest ≡ awaitedOf command → Calm rest latest t → isOver m t ≡ false
+  unfolding isOverdue awaitsFirst
+  not-over rest t all calm = rw (not-late rest t all calm, g .direct)
 
 pub still-answer : (s : State) (e : Event) (receive transmit : List ℕ) → isAccepted s e receive transmit ≡ true
     → isDue (s .message) (timeOf e) ≡ false
@@ -86,9 +91,9 @@ module _ (begun : State) (m : Message) (s : State) (way : Way begun m s) (bus : 
       let apart : eqb bus (r .bus) ≡ false = ne-eqb bus (r .bus) (λ e. eqb-false (r .bus) bus (not-true (eqb (r .bus) bus) h) (sym e)) in
       rw (way .message, on, apart) (and-false (isUnderWay (m .phase)))
 
-  -- nothing is due and nothing late
+  -- nothing is due and no time over
   abbrev pub Rests : ℕ → Type 0
-  Rests t = (isDue m t ≡ false) × (isLate m t ≡ false)
+  Rests t = (isDue m t ≡ false) × (isOver m t ≡ false)
 
   passes : (t : ℕ) (transmit : List ℕ) → Rests t → passedOf s t transmit ≡ atTime s t
   passes t transmit rests = still s t transmit (rw (way .message) (rests .0)) (rw (way .message) (rests .1))
@@ -109,7 +114,7 @@ module _ (begun : State) (m : Message) (s : State) (way : Way begun m s) (bus : 
       rw (stepped s e receive transmit ok, passes (timeOf e) transmit rests, takes e receive transmit harmless)
       (record { setup = way .setup; held = way .held; message = way .message; sending = way .sending })
 
-  -- where an accepted event comes at a time at which nothing is due and nothing late
+  -- where an accepted event comes at a time at which nothing is due and no time over
   abbrev pub InTime : Call → Type 0
   InTime (event e receive transmit) = isAccepted s e receive transmit ≡ true → Rests (timeOf e)
   InTime (setUp address receive transmit) = Unit {0}
@@ -163,6 +168,7 @@ unfolding nextWord nextData
 rule5-data Idle s r counts sync awaits next = false≢ counts
 rule5-data (Pledged address) s r counts sync awaits next = false≢ counts
 rule5-data Data s r counts sync awaits next = rw (awaits, next)
+rule5-data Confirmed s r counts sync awaits next = rw (awaits, next)
 rule5-data First s r counts sync awaits next = rw (data-not-second (s .setup .own) (s .message) r sync, awaits, next)
 
 -- rules 3 to 6 come to rule 5
@@ -181,6 +187,7 @@ staged-gathered {words = words} {m = m} g r few =
     let longer : length (words ++ (r .word ∷ [])) ≡ suc (length words) = simp length-append (omega arith) in
     record {
       counts = refl;
+      direct = refl;
       on = g .on;
       asked = g .asked;
       last = refl;
@@ -192,10 +199,10 @@ staged-gathered {words = words} {m = m} g r few =
 module _ (begun : State) {m : Message} {s : State} (way : Way begun m s) {bus command latest : ℕ} {words : List ℕ} (g : Gathered bus command latest words m)
     (r : WordRecord) (receive transmit : List ℕ) (next : NextWord s bus latest r receive transmit) (rest : List ℕ)
     (all : length words + length (r .word ∷ rest) ≡ awaitedOf command) where
-  in-time : (isDue m (r .time .0) ≡ false) × (isLate m (r .time .0) ≡ false)
+  in-time : (isDue m (r .time .0) ≡ false) × (isOver m (r .time .0) ≡ false)
   in-time =
       let calm : r .time .0 ≤ latest + spacingMost = spaced-most latest (r .time .0) (next .spaced) in
-      (not-due g (r .word ∷ rest) (r .time .0) all calm, not-late g (r .word ∷ rest) (r .time .0) all calm)
+      (not-due g (r .word ∷ rest) (r .time .0) all calm, not-over g (r .word ∷ rest) (r .time .0) all calm)
 
   awaits : awaitsData (s .message) ≡ true
   unfolding awaitsData

@@ -9,7 +9,7 @@ use Rattle.words.specs.declared.statuses.Flag.the-variants.{MessageError}
 use Rattle.words.proofs.Flags.{flag-alone}
 use Rattle.terminal.specs.States.{atTime}
 use Rattle.terminal.specs.Commands.{isOwn, isExempt}
-use Rattle.terminal.specs.Messages.{isLate}
+use Rattle.terminal.specs.Messages.{isOver}
 use Rattle.terminal.specs.Rules.{faultyOf}
 use Rattle.terminal.specs.Events.{timeOf, passedOf, takenOf}
 use Rattle.terminal.specs.declared.states.SpacingFault.{SpacingFault}
@@ -30,7 +30,7 @@ use Rattle.history.proofs.Keeping.{kept-same}
 use Rattle.history.proofs.Standing.{Standing, exempt-awaits, exempt-settled, taken-stands, call-stands, run-stands}
 use Rattle.history.proofs.Answered.{answered}
 use Rattle.history.proofs.Givens.{given-message}
-use Rattle.history.proofs.Faults.{hasBadWord, fault-either, late-faulty, bad-faulty, bad-under-way, passed-still}
+use Rattle.history.proofs.Faults.{hasBadWord, fault-either, over-faulty, bad-faulty, bad-under-way, passed-still}
 
 -- ---- the fault
 
@@ -45,11 +45,11 @@ faulty-marked s kind plain = record {
 }
 
 -- by its time
-late-marked : (s : State) (t : ℕ) (transmit : List ℕ) → isExempt (s .setup .own) (s .message .command .0) ≡ false → isLate (s .message) t ≡ true
+over-marked : (s : State) (t : ℕ) (transmit : List ℕ) → isExempt (s .setup .own) (s .message .command .0) ≡ false → isOver (s .message) t ≡ true
     → Standing (s .setup) (withFlag MessageError (s .held .status .0)) (passedOf s t transmit)
 unfolding passedOf
-late-marked s t transmit plain late =
-    let faulty = late-faulty s t transmit late in
+over-marked s t transmit plain over =
+    let faulty = over-faulty s t transmit over in
     let st = faulty-marked s _ plain in
     rw (faulty .0, faulty .1) (record { same = st .same; holds = st .holds; passing = st .passing })
 
@@ -71,10 +71,10 @@ event-marks s e receive transmit ok marks outside =
     let x : State = passedOf s (timeOf e) transmit in
     let exempt : Bool = isExempt (s .setup .own) (s .message .command .0) in
     let plain : exempt ≡ false = not-true exempt (search (and-left, marks)) in
-    let which : (isLate (s .message) (timeOf e) || hasBadWord x e) ≡ true = sym (fault-either s e transmit) ∙ search (and-left, and-right, marks) in
+    let which : (isOver (s .message) (timeOf e) || hasBadWord x e) ≡ true = sym (fault-either s e transmit) ∙ search (and-left, and-right, marks) in
     rw (stepped s e receive transmit ok)
-    (or-cases (isLate (s .message) (timeOf e)) (hasBadWord x e) which
-    (λ late. taken-stands x e receive transmit (late-marked s (timeOf e) transmit plain late) (λ quiet. outside))
+    (or-cases (isOver (s .message) (timeOf e)) (hasBadWord x e) which
+    (λ over. taken-stands x e receive transmit (over-marked s (timeOf e) transmit plain over) (λ quiet. outside))
     (λ bad. word-marked s e transmit plain bad))
 
 -- ---- the answer

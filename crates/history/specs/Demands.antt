@@ -1,27 +1,27 @@
--- THE FIRST FILE TO READ. Demand 3 of the user, clause by clause, and what stands beside it: time marks before an event do not matter; the kind of the
--- last spacing fault; no word on one bus wipes out a fault of the other, nor anything else of the stored status; refusals change nothing, and what a
+-- THE FIRST FILE TO READ. Demand 3 of the user, clause by clause, and what stands beside it: the same of a message between terminals, and that none
+-- waits longer than it may; time marks before an event do not matter; the kind of the last spacing fault; no word on one bus wipes out a fault of the other, nor anything else of the stored status; refusals change nothing, and what a
 -- refused set-up gives never answers; what an own command does to what is under way; what can be reached, and what every answer's status has; histories
--- that meet every premise. A statement is a type; its proof has the name above it and stands in proofs/. `Calls`, `Courses`, `States`, `Kinds`,
--- `Witnesses` and `Faults` say the words. Assumes nothing.
+-- that meet every premise. A statement is a type; its proof has the name above it and stands in proofs/. `Calls`, `Courses`, `Exchanges`, `States`,
+-- `Kinds`, `Witnesses` and `Faults` say the words. Assumes nothing.
 use mathlib.Core.Path.{_≡_}
-use Prim.Native.Nat.{ℕ, _+_, _≤_}
+use Prim.Native.Nat.{ℕ, _+_, _≤_, _<_}
 use mathlib.Core.Bool.{true, false, cond, _&&_}
 use mathlib.Core.List.{List, [], _∷_, _++_}
 use mathlib.Core.Logic.{_⊎_}
 use lib.Dec.{T}
 use lib.ListN.{length}
 use lib.Seq.{paste}
-use Rattle.words.specs.Words.{dueDistance, gapOf, addressOf, wordsOf, hasFlag, withFlag, hasNoOther, awaitedOf}
+use Rattle.words.specs.Words.{dueDistance, gapOf, addressOf, wordsOf, isTransmit, isMode, hasFlag, withFlag, hasNoOther, awaitedOf}
 use Rattle.words.specs.Refusals.{notRefused}
 use Rattle.words.specs.declared.times.Moment.{Moment}
 use Rattle.words.specs.declared.statuses.Flag.the-variants.{MessageError}
 use Rattle.records.specs.declared.forms.WordRecord.{WordRecord}
-use Rattle.terminal.specs.States.{spacingIn, noSending, freshOf, withHost}
+use Rattle.terminal.specs.States.{spacingIn, noMessage, noSending, freshOf, withHost}
 use Rattle.terminal.specs.Commands.{isOwn, isExempt}
 use Rattle.terminal.specs.Messages.{isUnderWay, isSending}
 use Rattle.terminal.specs.Settling.{otherBus, settledStatus, firstPlace, replyOf, storesData, noAnswer}
 use Rattle.terminal.specs.Rules.{begunOf, rule3}
-use Rattle.terminal.specs.Events.{timeOf, setUpRefusal, nothingLegal, setUpOf, eventRefusal, passedOf, refusedOf, eventOf, eventReceive}
+use Rattle.terminal.specs.Events.{timeOf, setUpRefusal, nothingLegal, setUpOf, eventRefusal, passedOf, refusedOf, eventOf, eventReceive, nextMomentOf}
 use Rattle.terminal.specs.declared.states.SpacingFault.{SpacingFault}
 use Rattle.terminal.specs.declared.states.SpacingFault.the-variants.{None}
 use Rattle.terminal.specs.declared.states.Setup.{Setup}
@@ -36,6 +36,7 @@ use Rattle.history.specs.Courses.{Command, Course, Silent, NoOwn, NoSetU
 use Rattle.history.specs.States.{isUnderWayOn, marksFault, ComesToFault, AtRest, Sound}
 use Rattle.history.specs.Kinds.{sets, changeBy, lastKind, AllLeaveKind}
 use Rattle.history.specs.Witnesses.{Met, answersAt1660, none, message, losses, eventLost}
+use Rattle.history.specs.Exchanges.{asked, Exchange, Waits, NotPast, ExchangeMet, answersBy2420, heardAt1750, notHeard}
 use Rattle.history.specs.Faults.{MarkMet, isMarked, each, marks, wipes, reportsAt3260, questioned, untold, eventUntold}
 
 -- ==== answered: "After any calls at all, take an accepted, valid command .. Then the first event accepted at or after the due time carries
@@ -109,6 +110,60 @@ Answered = (s : State) → s .setup .own .address ≤ 30 → AnsweredFrom s
 -- answered-after-any-past: "After any calls at all"
 abbrev pub AnsweredAfterAnyPast : Type 0
 AnsweredAfterAnyPast = (past : Past) → AnsweredFrom (afterPast past)
+
+-- ==== in-time-is-heard: the same of a message between terminals, with the second command word, the status and the data words of the other terminal
+-- "within 57 .. microseconds" (02 b); demand 3 is "without a second command word"
+
+-- of one terminal
+abbrev pub HeardFrom : State → Type 0
+HeardFrom s =
+    -- an accepted, valid receive command to the own address that is no mode command, on a bus where it is not sending and its transmitter is on,
+    (r : WordRecord) (receive transmit : List ℕ) → Command s r receive transmit
+    → isTransmit (r .word) ≡ false
+    → isMode (r .word) ≡ false
+    -- then the second command word, the status of the other terminal and all its data words, accepted, valid, and spaced as documents 01 and 02 say; between
+    -- them, and until the answer is due, calls that may come
+    → (words : List ℕ) → length words ≡ awaitedOf (r .word)
+    → (ks : List Call) (end : ℕ) → Exchange r asked (step s (event (Word r) receive transmit)) words ks end
+    -- then the first event accepted at or after the due time
+    → (e : Event) (receive' transmit' : List ℕ)
+    → isAccepted (run (step s (event (Word r) receive transmit)) ks) e receive' transmit' ≡ true
+    → end + dueDistance ≤ timeOf e
+    -- carries the answer, as in `answered`
+    → Carried (step s (event (Word r) receive transmit)) r words ks end e receive' transmit'
+
+-- in-time-is-heard: of every terminal with "an own address 0 to 30", whatever else it holds
+abbrev pub InTimeIsHeard : Type 0
+InTimeIsHeard = (s : State) → s .setup .own .address ≤ 30 → HeardFrom s
+
+-- in-time-is-heard-after-any-past
+abbrev pub InTimeIsHeardAfterAnyPast : Type 0
+InTimeIsHeardAfterAnyPast = (past : Past) → HeardFrom (afterPast past)
+
+-- ==== never-waits-longer: "a first data word with a gap above 570, or time passing the receive command by more than 750 without it, makes the message
+-- faulty" (02 b)
+
+-- An event makes the message faulty: it is marked, no answer, no data stored; and no message is under way after it but one that the event itself begins.
+pub record EndsFaulty (s : State) (e : Event) (receive transmit : List ℕ) : Type 0 where
+  pub marks : marksFault s e transmit ≡ true
+  pub silent : eventOf s e receive transmit .answer ≡ noAnswer
+  pub table : eventReceive s e receive transmit ≡ receive
+  pub over : bringsOwn s (event e receive transmit) ≡ false → step s (event e receive transmit) .message ≡ noMessage
+
+-- never-waits-longer: of every terminal, and so after any past, whatever came between, on whichever bus: whoever is to send the data words
+abbrev pub NeverWaitsLonger : Type 0
+NeverWaitsLonger =
+    (s : State) (r : WordRecord) (receive transmit : List ℕ) (ks : List Call) → Waits s r receive transmit ks
+    → (e : Event) (receive' transmit' : List ℕ)
+    → isAccepted (run (step s (event (Word r) receive transmit)) ks) e receive' transmit' ≡ true
+    → r .time .0 + 750 < timeOf e
+    → EndsFaulty (run (step s (event (Word r) receive transmit)) ks) e receive' transmit'
+
+-- wait-is-told: "Until that word comes the next moment is at most the receive command plus 751." (02 b)
+abbrev pub WaitIsTold : Type 0
+WaitIsTold =
+    (s : State) (r : WordRecord) (receive transmit : List ℕ) (ks : List Call) → Waits s r receive transmit ks
+    → NotPast (r .time .0 + 751) (nextMomentOf (run (step s (event (Word r) receive transmit)) ks .message))
 
 -- ==== as-a-mark: "And an accepted record that is no valid command to it or to all terminals, on a bus where no message of its own is under way,
 -- acts exactly as a time mark of that moment."
@@ -398,3 +453,11 @@ MarkWitness = MarkMet
 -- mark-needed: faults by word and by time are marked and answered with, and for each premise a history that breaks it is not
 abbrev pub MarkNeeded : Type 0
 MarkNeeded = T (each isMarked marks) × T (none isMarked wipes) × T (reportsAt3260 questioned) × T (none reportsAt3260 untold) × T eventUntold
+
+-- exchange-witness: one history meets every premise of `in-time-is-heard`, its first data word at the last moment
+abbrev pub ExchangeWitness : Type 0
+ExchangeWitness = ExchangeMet
+
+-- exchange-needed: a message between terminals is answered, and for each premise one that breaks it is not
+abbrev pub ExchangeNeeded : Type 0
+ExchangeNeeded = T (answersBy2420 heardAt1750) × T (none answersBy2420 notHeard)

@@ -5,4 +5,5 @@ pub mod States
 pub mod Kinds
 pub mod Witnesses
 pub mod Faults
+pub mod Exchanges
 pub mod Demands

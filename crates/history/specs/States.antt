@@ -1,14 +1,14 @@
 -- Faults as they are marked, what stands, and what every terminal that can be reached is like. Assumes nothing.
 use mathlib.Core.Path.{_≡_}
-use Prim.Native.Nat.{ℕ, _≤_}
+use Prim.Native.Nat.{ℕ, _+_, _≤_}
 use mathlib.Core.Bool.{Bool, true, false, not, cond, _&&_, _||_}
 use mathlib.Core.List.{List}
-use lib.Dec.{eqb, ltb}
+use lib.Dec.{eqb, ltb, leb}
 use lib.ListN.{length}
 use Rattle.words.specs.Words.{onClock, sinceOf, spacingLeast, addressOf, isBroadcast, isTransmit, isMode, hasNoOther, awaitedOf}
 use Rattle.records.specs.declared.forms.WordRecord.{WordRecord}
 use Rattle.terminal.specs.Commands.{isOwn, isExempt}
-use Rattle.terminal.specs.Messages.{isUnderWay, awaitsData, isLate, isNextData, isSecond, isStatusFrom}
+use Rattle.terminal.specs.Messages.{isUnderWay, awaitsData, isOver, isNextData, isSecond, isStatusFrom}
 use Rattle.terminal.specs.Rules.{rule1, faultyOf, rule2, rule3}
 use Rattle.terminal.specs.Events.{timeOf, passedOf, takenOf}
 use Rattle.terminal.specs.declared.states.Own.{Own}
@@ -16,7 +16,7 @@ use Rattle.terminal.specs.declared.states.SpacingFault.{SpacingFault}
 use Rattle.terminal.specs.declared.states.SpacingFault.the-variants.{None, Overlapping, Separated}
 use Rattle.terminal.specs.declared.states.Held.{Held}
 use Rattle.terminal.specs.declared.states.Phase.{Phase}
-use Rattle.terminal.specs.declared.states.Phase.the-variants.{Idle, First, Pledged, Data}
+use Rattle.terminal.specs.declared.states.Phase.the-variants.{Idle, First, Pledged, Confirmed, Data}
 use Rattle.terminal.specs.declared.states.Message.{Message}
 use Rattle.terminal.specs.declared.states.Sending.{Sending}
 use Rattle.terminal.specs.declared.states.Terminal.{Terminal as State}
@@ -35,6 +35,7 @@ isNextWord Idle s r = true
 isNextWord Data s r = awaitsData (s .message) && isNextData (s .message) r
 isNextWord First s r = isSecond (s .setup .own) (s .message) r || (awaitsData (s .message) && isNextData (s .message) r)
 isNextWord (Pledged address) s r = isStatusFrom address r
+isNextWord Confirmed s r = awaitsData (s .message) && isNextData (s .message) r
 
 -- "Otherwise the message is faulty, also when all its words had come."
 abbrev pub isBadWord : State → WordRecord → Bool
@@ -62,9 +63,19 @@ abbrev pub wordFault : State → Event → EventFault
 wordFault s (Mark t) = noFault
 wordFault s (Word r) = cond (isBadWord s r) (aFault (wordKind (s .message) r)) noFault
 
--- by its time, rule 2, or by its word
+-- The kind of a fault by time, said apart from the terminal's own (`timeFault`): "separated (above 205)" by rule 2 (02 i), none by the limit of 02 b.
+-- After the status of another terminal both hold, and the one whose moment came first counts (DECISIONS 78).
+abbrev pub timeKind : Phase → Message → SpacingFault
+timeKind Idle m = None
+timeKind First m = Separated
+timeKind (Pledged address) m = None
+timeKind Confirmed m = cond (leb (m .last .0 + 206) (m .start .0 + 751)) Separated None
+timeKind Data m = Separated
+
+-- by its time, rule 2 and the limit of 02 b, or by its word
 abbrev pub faultOf : State → Event → List ℕ → EventFault
-faultOf s e transmit = cond (isLate (s .message) (timeOf e)) (aFault Separated) (wordFault (passedOf s (timeOf e) transmit) e)
+faultOf s e transmit =
+    cond (isOver (s .message) (timeOf e)) (aFault (timeKind (s .message .phase) (s .message))) (wordFault (passedOf s (timeOf e) transmit) e)
 
 -- An event marks it; "(not for the two exempt commands)".
 abbrev pub marksFault : State → Event → List ℕ → Bool
@@ -94,11 +105,12 @@ AtRest s = isUnderWay (s .message .phase) ≡ true → isExempt (s .setup .own) 
 abbrev pub isTo : Own → ℕ → Bool
 isTo own word = eqb (addressOf word) (own .address) || isBroadcast word
 
--- before the first data word of a message, while a second command word may come or a status is awaited
+-- before the first data word of a message: a second command word may come, or has come, and after it a status
 abbrev pub isOpening : Phase → Bool
 isOpening Idle = false
 isOpening First = true
 isOpening (Pledged address) = true
+isOpening Confirmed = true
 isOpening Data = false
 
 -- what is held, by a terminal of that own address

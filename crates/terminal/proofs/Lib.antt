@@ -9,3 +9,4 @@ pub mod Places
 pub mod Spans
 pub mod Works
 pub mod Wrapped
+pub mod Moments

@@ -16,7 +16,7 @@ use Rattle.terminal.specs.Events.{timeOf, eventRefusal, takenOf, cutOf}
 use Rattle.terminal.specs.Works.{workOf, withWork, toldOf, dataMeaning, wordMeaning, meaningOf, heardMeaning, isBeginning, cutBy, changedOf}
 use Rattle.terminal.specs.declared.states.Own.{Own}
 use Rattle.terminal.specs.declared.states.Phase.{Phase}
-use Rattle.terminal.specs.declared.states.Phase.the-variants.{Idle, First, Pledged, Data}
+use Rattle.terminal.specs.declared.states.Phase.the-variants.{Idle, First, Pledged, Confirmed, Data}
 use Rattle.terminal.specs.declared.states.Message.{Message}
 use Rattle.terminal.specs.declared.states.Sending.{Sending}
 use Rattle.terminal.specs.declared.states.Work.{Work}
@@ -55,6 +55,7 @@ word-changed : (p : Phase) (s : State) (r : WordRecord) → nextWord p s r ≡ c
 unfolding nextWord wordMeaning changedOf faultyOf
 word-changed Idle s r = refl
 word-changed Data s r = data-changed s r
+word-changed Confirmed s r = data-changed s r
 word-changed First s r = either s r (isSecond (s .setup .own) (s .message) r) _ _ _ _ refl (data-changed s r)
 word-changed (Pledged address) s r = either s r (isStatusFrom address r) _ _ _ _ refl refl
 
@@ -97,6 +98,7 @@ word-few : (p : Phase) (own : Own) (m : Message) (r : WordRecord) → isDataWord
 unfolding wordMeaning
 word-few Idle own m r e = false≢ e
 word-few Data own m r e = data-few m r e
+word-few Confirmed own m r e = data-few m r e
 word-few First own m r e = pick (isSecond own m r) _ _ (λ _ d. false≢ d) (data-few m r) e
 word-few (Pledged address) own m r e = pick (isStatusFrom address r) _ _ (λ _ d. false≢ d) (λ d. false≢ d) e
 
@@ -146,6 +148,7 @@ word-quiet : (p : Phase) (own : Own) (m : Message) (r : WordRecord) → isBeginn
 unfolding wordMeaning
 word-quiet Idle own m r = refl
 word-quiet Data own m r = data-quiet m r
+word-quiet Confirmed own m r = data-quiet m r
 word-quiet First own m r = quiet (isSecond own m r) _ _ refl (data-quiet m r)
 word-quiet (Pledged address) own m r = quiet (isStatusFrom address r) _ _ refl refl
 

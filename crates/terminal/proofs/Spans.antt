@@ -23,6 +23,10 @@ since-least a k t p = leb-same k (t - a) (a + k) t (λ h. omega arith) (λ h. om
 pub since-more : (a k t : ℕ) → ltb k (t - a) ≡ ltb (a + k) t
 since-more a k t = leb-same (suc k) (t - a) (suc (a + k)) t (λ h. omega arith) (λ h. omega arith)
 
+-- the same with so much added to both
+pub since-more-of : (a k n t : ℕ) → ltb k (t - a) ≡ ltb (a + (k + n)) (t + n)
+since-more-of a k n t = leb-same (suc k) (t - a) (suc (a + (k + n))) (t + n) (λ h. omega arith) (λ h. omega arith)
+
 -- a last test may be another where the one before it passes
 and-last : (x p q r : Bool) → (p ≡ true → q ≡ r) → (x && p && q) ≡ (x && p && r)
 and-last true true q r h = h refl

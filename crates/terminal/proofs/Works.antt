@@ -4,7 +4,7 @@ use mathlib.Core.Bool.{Bool, true, false, cond}
 use mathlib.Core.List.{List}
 use Prim.Native.Nat.{ℕ}
 use Rattle.terminal.specs.States.{atTime}
-use Rattle.terminal.specs.Messages.{awaitsData, isDue, isLate}
+use Rattle.terminal.specs.Messages.{awaitsData, isWhole, isDue, isLate, awaitsFirst, isOverdue, isOver}
 use Rattle.terminal.specs.Rules.{settledOf, rule1, faultyOf, rule2}
 use Rattle.terminal.specs.Events.{passedOf}
 use Rattle.terminal.specs.Works.{workOf, withWork, bareOf}
@@ -25,7 +25,7 @@ rule1-framed s t transmit = either s (isDue (s .message) t) _ _ refl refl
 
 rule2-framed : (s : State) (w : Work) (t : ℕ) → Framed s (rule2 (withWork s w) t)
 unfolding rule2 faultyOf
-rule2-framed s w t = either s (isLate (w .message) t) _ _ refl refl
+rule2-framed s w t = either s (isOver (w .message) t) _ _ refl refl
 
 pub passed-framed : (s : State) (t : ℕ) (transmit : List ℕ) → passedOf s t transmit ≡ atTime (withWork s (workOf (passedOf s t transmit))) t
 unfolding passedOf
@@ -37,7 +37,7 @@ passed-framed s t transmit =
 
 -- what is settled is under way no more
 pub passed-settled : (s : State) (t : ℕ) (transmit : List ℕ) → isDue (s .message) t ≡ true → workOf (passedOf s t transmit) ≡ workOf (settledOf s transmit)
-unfolding passedOf rule1 rule2 settledOf isLate awaitsData
+unfolding passedOf rule1 rule2 settledOf isLate awaitsData isOverdue awaitsFirst
 passed-settled s t transmit due = ap (λ (b : Bool). workOf (rule2 (cond b (settledOf s transmit) s) t)) due
 
 same-work : (b : Bool) (x y v w : State) → workOf x ≡ workOf v → workOf y ≡ workOf w → workOf (cond b x y) ≡ workOf (cond b v w)
@@ -48,4 +48,4 @@ same-work false x y v w p q = q
 pub passed-waiting : (s : State) (t : ℕ) (transmit : List ℕ) → isDue (s .message) t ≡ false → workOf (passedOf s t transmit) ≡ workOf (rule2 (bareOf (s .setup .own) (workOf s)) t)
 unfolding passedOf rule1 rule2 faultyOf
 passed-waiting s t transmit due =
-    ap (λ (b : Bool). workOf (rule2 (cond b (settledOf s transmit) s) t)) due ∙ same-work (isLate (s .message) t) _ _ _ _ refl refl
+    ap (λ (b : Bool). workOf (rule2 (cond b (settledOf s transmit) s) t)) due ∙ same-work (isOver (s .message) t) _ _ _ _ refl refl

@@ -12,7 +12,7 @@ build-requires c κs = search needs
 
 returns : tie.Need-returns
 unfolding begunOf
-returns c = rw (c .build .ensures, c .before .before .first-phase .ensures)
+returns c = rw (c .build .ensures, c .before .before .before .first-phase .ensures)
 
 pub begun-spec : {M : Type 1} → statement M
 begun-spec = tie.close (tie.spec first-phase-requires build-requires returns)

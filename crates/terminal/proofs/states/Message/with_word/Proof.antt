@@ -13,7 +13,7 @@ build-requires : tie.Need-build-requires
 build-requires c κs = search needs
 
 returns : tie.Need-returns
-returns c = rw (c .build .ensures, c .before .before .before .before .with-word .ensures)
+returns c = rw (c .build .ensures, c .before .before .before .before .before .with-word .ensures)
 
 pub with-word-spec : {M : Type 1} → statement M
 with-word-spec = tie.close (tie.spec with-word-requires add-build build-requires returns)

@@ -1,0 +1,34 @@
+-- By whether the last word came more than 545 after the command. Assumes nothing.
+use mathlib.Core.Path.{sym, _∙_}
+use Rattle.terminal.specs.Messages.{isOverdue}
+use Rattle.terminal.specs.Rules.{timeFault}
+use Rattle.terminal.proofs.Spans.{since-more-of}
+use borrow.Author.Needs.{needs}
+use Rattle.terminal.proofs.states.Message.time_fault.Statement.{statement}
+use Rattle.terminal.proofs.states.Message.time_fault.Tie as tie
+
+since-requires : tie.Need-since-requires
+since-requires c κs = search needs
+
+awaits-data-requires : tie.Need-awaits-data-requires
+awaits-data-requires c κs = search needs
+
+awaits-first-requires : tie.Need-awaits-first-requires
+awaits-first-requires c κs = search needs
+
+returns : tie.Need-returns
+unfolding timeFault isOverdue
+returns c =
+    let m = c .before .before .before .before .before .before .args .self in
+    let b = c .before .before .before in
+    rw (sym (since-more-of (m .start .0) 545 205 (m .last .0)), sym (b .before .before .since .ensures), sym (b .before .awaits-data .ensures), sym (b .awaits-first .ensures), c .if1 .taken)
+
+returns-2 : tie.Need-returns-2
+unfolding timeFault isOverdue
+returns-2 c =
+    let m = c .before .before .before .before .before .before .args .self in
+    let b = c .before .before .before in
+    rw (sym (since-more-of (m .start .0) 545 205 (m .last .0)), sym (b .before .before .since .ensures), sym (b .before .awaits-data .ensures), sym (b .awaits-first .ensures), c .if1 .left)
+
+pub time-fault-spec : {M : Type 1} → statement M
+time-fault-spec = tie.close (tie.spec since-requires awaits-data-requires awaits-first-requires returns returns-2)
