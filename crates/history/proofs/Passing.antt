@@ -1,18 +1,20 @@
 -- Rules 1 and 2: what they leave as it is, and what they end. Assumes nothing.
-use mathlib.Core.Path.{_≡_, refl}
+use mathlib.Core.Path.{_≡_, refl, _∙_}
 use Prim.Native.Nat.{ℕ}
-use mathlib.Core.Bool.{Bool, true, false, cond}
+use mathlib.Core.Bool.{true, false}
 use mathlib.Core.List.{List}
 use Rattle.records.specs.declared.forms.WordRecord.{WordRecord}
 use Rattle.terminal.specs.States.{noMessage, atTime}
-use Rattle.terminal.specs.Commands.{isOwn}
+use Rattle.terminal.specs.Commands.{isOwn, isExempt}
 use Rattle.terminal.specs.Messages.{isUnderWay, awaitsData, isDue, isLate, awaitsFirst, isOverdue, isOver}
-use Rattle.terminal.specs.Rules.{settledOf, rule1, faultyOf, rule2}
+use Rattle.terminal.specs.Rules.{settledOf, rule1, markedOf, faultyOf, rule2}
 use Rattle.terminal.specs.Events.{passedOf}
+use Rattle.terminal.specs.declared.states.SpacingFault.{SpacingFault}
 use Rattle.terminal.specs.declared.states.Held.{Held}
 use Rattle.terminal.specs.declared.states.Message.{Message}
 use Rattle.terminal.specs.declared.states.Terminal.{Terminal as State}
 use Rattle.history.proofs.Tests.{false≢, cond-cases}
+use Rattle.history.proofs.Keeping.{kept-same}
 
 -- they keep the setup
 pub passed-setup : (s : State) (t : ℕ) (transmit : List ℕ) → passedOf s t transmit .setup ≡ s .setup
@@ -43,15 +45,19 @@ unfolding passedOf rule2 faultyOf
 passed-sending s t transmit =
     cond-cases (λ (x : State). x .sending ≡ rule1 s t transmit .sending) (isOver (rule1 s t transmit .message) t) (λ over. refl) (λ in-time. refl)
 
-shut-either : (shut : List Bool) (b : Bool) (x y : Held) → x .shut ≡ shut → y .shut ≡ shut → cond b x y .shut ≡ shut
-shut-either shut b x y p q = cond-cases (λ (h : Held). h .shut ≡ shut) b (λ e. p) (λ e. q)
+faulty-shut : (s : State) (kind : SpacingFault) → faultyOf s kind .held .shut ≡ s .held .shut
+unfolding faultyOf
+faulty-shut s kind =
+    let w : ℕ = s .message .command .0 in
+    kept-same (λ (h : Held). h .shut) (λ h overlapping separated. refl) (markedOf (s .setup .own) (s .held) w) kind
+    ∙ cond-cases (λ (h : Held). h .shut ≡ s .held .shut) (isExempt (s .setup .own) w) (λ exempt. refl) (λ other. refl)
 
 pub passed-shut : (s : State) (t : ℕ) (transmit : List ℕ) → passedOf s t transmit .held .shut ≡ rule1 s t transmit .held .shut
-unfolding passedOf rule2 faultyOf
+unfolding passedOf rule2
 passed-shut s t transmit =
     let x : State = rule1 s t transmit in
     cond-cases (λ (y : State). y .held .shut ≡ x .held .shut) (isOver (x .message) t)
-    (λ over. search shut-either)
+    (λ over. faulty-shut x _)
     (λ in-time. refl)
 
 -- where nothing is due and no time over they set the time alone

@@ -14,7 +14,7 @@ use Rattle.terminal.specs.States.{ownOf, setupOf, freshOf, withHost, withMessag
 use Rattle.terminal.specs.Commands.{isOwn}
 use Rattle.terminal.specs.Messages.{isUnderWay, isOn, awaitsData, isDue, isOver, isNextData, isSecond, isStatusFrom}
 use Rattle.terminal.specs.Settling.{sendingOf}
-use Rattle.terminal.specs.Rules.{replyNow, settledOf, rule1, faultyOf, rule2, rule3, rule4, stagedOf, movedOf, nextData, nextWord, rule5, rules3to6}
+use Rattle.terminal.specs.Rules.{replyNow, settledOf, rule1, faultyOf, timeFault, rule2, rule3, rule4, stagedOf, movedOf, nextData, nextWord, rule5, rules3to6}
 use Rattle.terminal.specs.Events.{eventOf, happensOf, setUpRefusal, setUpOf, timeOf, isInRange, passedOf, takenOf, selftestCleared, restartedOf}
 use Rattle.terminal.specs.declared.states.Host.{Host}
 use Rattle.terminal.specs.declared.states.Setup.{Setup}
@@ -109,7 +109,7 @@ module _ (s : State) (h : Sound s) (t : ℕ) (later : s .time .0 ≤ t) (on-cloc
   unfolding passedOf rule1 rule2 faultyOf
   passed-sound transmit =
       let settled : P (rule1 s t transmit) = cond-cases P (isDue (s .message) t) (settled-sound transmit) (λ e. later-sound) in
-      cond-cases P (isOver (rule1 s t transmit .message) t) (λ e. faulty-sound _ settled _) (λ e. settled)
+      cond-cases P (isOver (rule1 s t transmit .message) t) (λ e. faulty-sound _ settled (timeFault (rule1 s t transmit .message))) (λ e. settled)
     where
       P : State → Type 0
       P x = Sound (atTime x t)

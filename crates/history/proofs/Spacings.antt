@@ -1,16 +1,19 @@
 -- The kind of the last spacing fault is that which the calls set. Assumes nothing.
 use mathlib.Core.Path.{_≡_, refl, sym, ap, _∙_}
 use Prim.Native.Nat.{ℕ, _+_, _≤_}
-use mathlib.Core.Bool.{Bool, true, false, cond, _&&_}
+use mathlib.Core.Bool.{Bool, true, false, not, cond, _&&_, _||_}
 use mathlib.Core.List.{List, [], _∷_}
+use mathlib.Core.Logic.{dite}
+use native.Mathlib.Nat.{lt-of-not-le}
+use native.Mathlib.Decide.{decLe}
 use native.Mathlib.Omega.{arith}
-use lib.Dec.{eqb, ltb}
-use borrow.Author.Tests.{eqb-true, ltb-false, le-leb}
-use Rattle.words.specs.Words.{sinceOf, spacingLeast, spacingMost, spacingOf, codeOf, isMode}
+use lib.Dec.{eqb, ltb, leb}
+use borrow.Author.Tests.{eqb-true, ltb-true, ltb-false, le-ltb, lt-ltb, le-leb, lt-leb, leb-false, not-true}
+use Rattle.words.specs.Words.{sinceOf, spacingLeast, spacingMost, spacingOf, codeOf, isMode, awaitedOf}
 use Rattle.records.specs.declared.forms.WordRecord.{WordRecord}
 use Rattle.terminal.specs.States.{withStatus, noMessage, spacingIn}
 use Rattle.terminal.specs.Commands.{isOwn, isExempt, isLegal}
-use Rattle.terminal.specs.Messages.{isUnderWay, isOn, isCounting, awaitsData, isWhole, isDue, isLate, firstWordDistance, awaitsFirst, isOverdue, isOver, isNextData, isSecond}
+use Rattle.terminal.specs.Messages.{isUnderWay, isOn, isCounting, awaitsData, isWhole, isDue, isLate, isBetween, awaitsFirst, isOverdue, isOver, isNextData, isSecond}
 use Rattle.terminal.specs.Effects.{effectOf, heldAfter}
 use Rattle.terminal.specs.Rules.{settledOf, markedOf, keptBy, faultyOf, timeFault, rule3, notedStatus, notedCommand, rule4, faultBy, faultIn, nextData, nextWord, rule5, rules3to6}
 use Rattle.terminal.specs.Events.{timeOf, setUpOf, passedOf, takenOf}
@@ -30,7 +33,7 @@ use Rattle.history.specs.Calls.{Call, setUp, event, host, clearSelftest,
 use Rattle.history.specs.States.{isUnderWayOn, isNextWord, isBadWord, noFault, aFault, wordKind, wordFault, timeKind}
 use Rattle.history.specs.Kinds.{Change, leaves, sets, byFault, isReset, byEvent, changeBy, afterChange, lastKind, AllLeaveKind}
 use Rattle.history.specs.Demands.{SpacingKept, SpacingKeptAfterAnyPast, SpacingLatest, KindAsAMark}
-use Rattle.history.proofs.Tests.{true≢, false≢, cond-cases, and-false, or-false, or-cases}
+use Rattle.history.proofs.Tests.{true≢, false≢, cond-cases, and-left, and-right, or-false, or-cases}
 use Rattle.history.proofs.Steps.{stepped, refused-stays}
 use Rattle.history.proofs.Passing.{still, due-ends}
 use Rattle.history.proofs.Marks.{as-a-mark}
@@ -196,24 +199,42 @@ over-awaits m t counts over =
     rw (counts, lt-ltb (m .got) (awaitedOf (m .command .0)) (leb-false (awaitedOf (m .command .0)) (m .got) missing)))
 
 -- one that awaits a data word is not whole
-awaits-open : (m : Message) → awaitsData m ≡ true → isWhole m ≡ false
+awaits-missing : (m : Message) → awaitsData m ≡ true → isWhole m ≡ false
 unfolding awaitsData isWhole
-awaits-open m awaits =
+awaits-missing m awaits =
     let counts : isCounting (m .phase) ≡ true = search (and-left, awaits) in
     let less : ltb (m .got) (awaitedOf (m .command .0)) ≡ true = search (and-right, awaits) in
     rw (counts, lt-leb (awaitedOf (m .command .0)) (m .got) (ltb-true (m .got) (awaitedOf (m .command .0)) less))
 
+-- one that awaits a data word, and no first one of another terminal, is late and not overdue
+direct-kind : (m : Message) → awaitsData m ≡ true → isBetween (m .phase) ≡ false → timeFault m ≡ Separated
+unfolding timeFault isOverdue awaitsFirst
+direct-kind m awaits direct = rw (awaits, direct)
+
+-- one that awaits a first one of another terminal: the limit that was passed first
+first-kind : (m : Message) → awaitsData m ≡ true → isBetween (m .phase) ≡ true
+    → timeFault m ≡ cond (leb (m .last .0 + 206) (m .start .0 + 751)) Separated None
+unfolding timeFault isOverdue awaitsFirst
+first-kind m awaits between =
+    rw (awaits, between, awaits-missing m awaits)
+    (dite (decLe (m .last .0 + 206) (m .start .0 + 751))
+    (λ h. rw (le-leb (m .last .0 + 206) (m .start .0 + 751) h, le-ltb (m .start .0 + 750) (m .last .0 + 205) (omega (arith, h))) refl)
+    (λ h. rw (lt-leb (m .last .0 + 206) (m .start .0 + 751) (lt-of-not-le h), lt-ltb (m .start .0 + 750) (m .last .0 + 205) (omega (arith, lt-of-not-le h))) refl))
+
 -- the kind of a fault by time is the terminal's own
 time-kinds : (m : Message) (t : ℕ) → isOver m t ≡ true → timeFault m ≡ timeKind (m .phase) m
-unfolding timeFault
+unfolding timeFault awaitsData
 time-kinds m t over = go (m .phase) refl
   where
+    counts : (p : Phase) → m .phase ≡ p → isCounting p ≡ true → awaitsData m ≡ true
+    counts p is h = over-awaits m t (ap isCounting is ∙ h) over
+
     go : (p : Phase) → m .phase ≡ p → timeFault m ≡ timeKind p m
-    go Idle is = ?
-    go First is = ?
-    go (Pledged address) is = ?
-    go Confirmed is = ?
-    go Data is = ?
+    go Idle is = rw is refl
+    go First is = direct-kind m (counts First is refl) (ap isBetween is)
+    go (Pledged address) is = rw is refl
+    go Confirmed is = first-kind m (counts Confirmed is refl) (ap isBetween is)
+    go Data is = direct-kind m (counts Data is refl) (ap isBetween is)
 
 -- ---- an event
 

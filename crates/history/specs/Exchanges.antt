@@ -123,6 +123,9 @@ exchanged =
 abbrev pub taken : State
 taken = step (benchAfter []) (hears (Word ordered))
 
+unfoldable pub brought : List ℕ
+brought = 0x0007 ∷ 0x0009 ∷ []
+
 -- Every premise of `in-time-is-heard` is met, and the event carries the answer.
 pub record ExchangeMet : Type 0 where
   pub set : isSetUp 5 allLegal allLegal ≡ true
@@ -130,8 +133,8 @@ pub record ExchangeMet : Type 0 where
   pub asks : Command (benchAfter []) ordered zeros zeros
   pub receives : isTransmit (ordered .word) ≡ false
   pub plain : isMode (ordered .word) ≡ false
-  pub count : length (0x0007 ∷ 0x0009 ∷ []) ≡ awaitedOf (ordered .word)
-  pub runs : Exchange ordered asked taken (0x0007 ∷ 0x0009 ∷ []) exchanged 1950
+  pub count : length brought ≡ awaitedOf (ordered .word)
+  pub runs : Exchange ordered asked taken brought exchanged 1950
   pub accepted : isAccepted (run taken exchanged) (mark 2210) zeros zeros ≡ true
   pub then : 1950 + dueDistance ≤ timeOf (mark 2210)
   pub answer : isAnswer (eventOf (run taken exchanged) (mark 2210) zeros zeros .answer) 0 2210 0x2800 [] ≡ true
