@@ -8,6 +8,7 @@ use lib.ListN.{length, take, drop}
 use lib.Seq.{paste, take-all}
 use borrow.Author.Tests.{le-leb, ne-eqb, not-true}
 use Rattle.words.specs.Words.{dueDistance, addressOf, wordsOf, isTransmit, isMode, isBroadcast, awaitedOf}
+use Rattle.records.specs.declared.forms.WordRecord.{WordRecord}
 use Rattle.terminal.specs.States.{withSelftest, noMessage, stateOf, withHost}
 use Rattle.terminal.specs.Messages.{isUnderWay, isWhole, isDue}
 use Rattle.terminal.specs.Settling.{isShut, settledStatus, firstPlace, modeWords, legalReply, replyOf, storesData, storedOf, isWithheld, answerOf}
@@ -21,8 +22,9 @@ use Rattle.terminal.specs.declared.answers.Answer.{Answer}
 use Rattle.terminal.specs.declared.answers.Reply.{Reply}
 use Rattle.terminal.specs.declared.events.Event.{Event}
 use Rattle.terminal.specs.declared.events.Event.the-variants.{Word}
-use Rattle.history.specs.Calls.{event, isAccepted, step, run}
-use Rattle.history.specs.Demands.{composing, dueAnswer, Answered}
+use Rattle.history.specs.Calls.{Call, event, isAccepted, step, run}
+use Rattle.history.specs.Courses.{Command}
+use Rattle.history.specs.Demands.{composing, dueAnswer, Carried, Answered}
 use Rattle.history.proofs.Tests.{false≢, and-left, and-right}
 use Rattle.history.proofs.Steps.{accepted, accepted-table}
 use Rattle.history.proofs.Passing.{due-ends}
@@ -30,7 +32,7 @@ use Rattle.history.proofs.Idle.{event-idle, idle-run, idle-answer}
 use Rattle.history.proofs.Later.{event-since, answers-later}
 use Rattle.history.proofs.Ways.{Way, Gathered}
 use Rattle.history.proofs.Carrying.{Arrived, carry}
-use Rattle.history.proofs.Begun.{begun-gathered, begun-way, begun-on}
+use Rattle.history.proofs.Begun.{begun-direct, begun-gathered, begun-way, begun-on}
 
 -- ---- what settling reads: the setup, the host's parts, and what is held but for the self-test request
 
@@ -140,12 +142,18 @@ module _ (begun : State) (bus w end : ℕ) (words : List ℕ) (s : State) {m : M
 not-broadcast : (own w : ℕ) → own ≤ 30 → addressOf w ≡ own → isBroadcast w ≡ false
 not-broadcast own w few to = ne-eqb (addressOf w) 31 (λ h. omega arith)
 
-pub answered : Answered
-answered s few r receive transmit k words all ks end course e receive' transmit' ok then =
+-- a message that has arrived at its due time is answered
+pub arrived-carried : (s : State) → s .setup .own .address ≤ 30 → (r : WordRecord) (receive transmit : List ℕ) → Command s r receive transmit
+    → (words : List ℕ) → length words ≡ awaitedOf (r .word)
+    → (ks : List Call) (end : ℕ)
+    → Arrived (step s (event (Word r) receive transmit)) (r .bus) (r .word) end words (step s (event (Word r) receive transmit)) ks
+    → (e : Event) (receive' transmit' : List ℕ)
+    → isAccepted (run (step s (event (Word r) receive transmit)) ks) e receive' transmit' ≡ true
+    → end + dueDistance ≤ timeOf e
+    → Carried (step s (event (Word r) receive transmit)) r words ks end e receive' transmit'
+arrived-carried s few r receive transmit k words all ks end way e receive' transmit' ok then =
     let begun : State = step s (event (Word r) receive transmit) in
     let later : State = run begun ks in
-    let way : Arrived begun (r .bus) (r .word) end words begun ks =
-    carry begun (r .bus) (r .word) [] (begun-way s r receive transmit k) (begun-gathered r) (omega arith) course in
     let own : isBroadcast (r .word) ≡ false = not-broadcast (s .setup .own .address) (r .word) few (k .own) in
     let on : isShut (begun .held) (r .bus) ≡ false = begun-on s r receive transmit k in
     let answer : eventOf later e receive' transmit' .answer ≡ dueAnswer (composing begun ks) r end transmit' =
@@ -166,3 +174,8 @@ answered s few r receive transmit k words all ks end course e receive' transmit'
           (event-since (timeOf e) later e receive' transmit' ok (omega arith) (λ on. false≢ (ap (λ (m : Message). isUnderWay (m .phase)) (sym ended) ∙ on)))
           none;
     }
+
+pub answered : Answered
+answered s few r receive transmit k words all ks end course =
+    arrived-carried s few r receive transmit k words all ks end
+    (carry (step s (event (Word r) receive transmit)) (r .bus) (r .word) [] (begun-way s r receive transmit k) (begun-gathered r) (begun-direct r) (omega arith) course)

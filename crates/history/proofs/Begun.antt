@@ -45,9 +45,13 @@ first-direct word =
     let direct : Phase → Type 0 = λ p. isBetween p ≡ false in
     cond-cases direct (isTransmit word) (λ transmits. refl) (λ receives. cond-cases direct (isMode word) (λ mode. refl) (λ other. refl))
 
+pub begun-direct : (r : WordRecord) → isBetween (begunOf r .phase) ≡ false
+unfolding begunOf
+begun-direct r = first-direct (r .word)
+
 pub begun-gathered : (r : WordRecord) → Gathered (r .bus) (r .word) (r .time .0) [] (begunOf r)
 unfolding begunOf
-begun-gathered r = record { counts = first-counts (r .word); direct = first-direct (r .word); on = refl; asked = refl; last = refl; got = refl; kept = refl; room = refl }
+begun-gathered r = record { counts = first-counts (r .word); on = refl; asked = refl; last = refl; got = refl; kept = refl; room = refl }
 
 pub own-command : (own : Own) (r : WordRecord) → isValidRecord r ≡ true → r .sync ≡ commandSync → addressOf (r .word) ≡ own .address → isOwn own r ≡ true
 unfolding isOwn

@@ -10,7 +10,7 @@ use Rattle.words.proofs.Truth.{and-both}
 use Rattle.records.specs.declared.forms.WordRecord.{WordRecord}
 use Rattle.terminal.specs.States.{atTime}
 use Rattle.terminal.specs.Commands.{isOwn, isExempt}
-use Rattle.terminal.specs.Messages.{isUnderWay, isOn, isCounting, awaitsData, isWhole, isDue, isLate, isBetween, awaitsFirst, isOverdue, isOver, isNextData, isSecond}
+use Rattle.terminal.specs.Messages.{isUnderWay, isOn, isCounting, awaitsData, isWhole, isDue, isLate, awaitsFirst, isOverdue, isOver, isNextData, isSecond}
 use Rattle.terminal.specs.Rules.{settledOf, rule1, faultyOf, timeFault, rule2, rule3, firstPhase, begunOf, rule4, stagedOf, movedOf, faultIn, nextData, nextWord, rule5, rules3to6}
 use Rattle.terminal.specs.Events.{timeOf, passedOf, takenOf}
 use Rattle.terminal.specs.declared.states.SpacingFault.{SpacingFault}
@@ -20,7 +20,7 @@ use Rattle.terminal.specs.declared.states.Message.{Message}
 use Rattle.terminal.specs.declared.states.Terminal.{Terminal as State}
 use Rattle.terminal.specs.declared.events.Event.{Event}
 use Rattle.terminal.specs.declared.events.Event.the-variants.{Mark, Word}
-use Rattle.history.specs.States.{isNextWord, isBadWord, wordKind, timeKind, EventFault, noFault, aFault, isFault, wordFault, faultOf, marksFault, MadeFaulty, ComesToFault, by-time, by-word}
+use Rattle.history.specs.States.{isNextWord, isBadWord, wordKind, EventFault, noFault, aFault, isFault, wordFault, faultOf, marksFault, MadeFaulty, ComesToFault, by-time, by-word}
 use Rattle.history.specs.Demands.{FaultExactly}
 use Rattle.history.proofs.Tests.{true≢, false≢, cond-cases, and-left, and-right, or-false, or-cases}
 use Rattle.history.proofs.Phases.{counting-under-way, over-under-way}

@@ -38,7 +38,7 @@ none-recent t h = false≢ h
 -- a record that is not earlier than t leaves what is recent
 rules-recent : (t : ℕ) (r : WordRecord) → t ≤ r .time .0 → (s : State) → Recent t (s .message) → Recent t (rules3to6 s r .message)
 unfolding stagedOf movedOf begunOf
-rules-recent t r then s h = rules-hold (Recent t) (none-recent t) r (λ m under before on. then) (λ m p under before on. then) s h (λ own on. then)
+rules-recent t r then s h = rules-hold (Recent t) (none-recent t) r (λ m under before on. then) (λ m p between under before on. then) s h (λ own on. then)
 
 -- an accepted event at or after t leaves what is recent
 pub event-since : (t : ℕ) (s : State) (e : Event) (receive transmit : List ℕ) → isAccepted s e receive transmit ≡ true → t ≤ timeOf e

@@ -8,6 +8,7 @@ pub mod Marks
 pub mod Givens
 pub mod Times
 pub mod Ways
+pub mod Running
 pub mod Idle
 pub mod Later
 pub mod Carrying
@@ -25,4 +26,6 @@ pub mod Polling
 pub mod Spacings
 pub mod Pasts
 pub mod Replacing
+pub mod Limits
+pub mod Exchanging
 pub mod Witnessed

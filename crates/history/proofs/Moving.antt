@@ -4,7 +4,7 @@ use mathlib.Core.Bool.{true, _&&_}
 use Rattle.records.specs.declared.forms.WordRecord.{WordRecord}
 use Rattle.terminal.specs.States.{noMessage, withMessage}
 use Rattle.terminal.specs.Commands.{isOwn}
-use Rattle.terminal.specs.Messages.{isUnderWay, isOn, awaitsData, isNextData, isSecond, isStatusFrom}
+use Rattle.terminal.specs.Messages.{isUnderWay, isOn, awaitsData, isBetween, isNextData, isSecond, isStatusFrom}
 use Rattle.terminal.specs.Rules.{faultyOf, rule3, begunOf, rule4, stagedOf, movedOf, nextData, nextWord, rule5, rules3to6}
 use Rattle.terminal.specs.declared.states.SpacingFault.{SpacingFault}
 use Rattle.terminal.specs.declared.states.Phase.{Phase}
@@ -42,10 +42,11 @@ module _ {A : Type 0} (part : State → A)
       cond-cases same (isOwn (s .setup .own) r) (λ own. begun s r)
       (λ foreign. cond-cases same (isOn (s .message) (r .bus)) (λ on. next-keeps (s .message .phase)) (λ off. refl)))
 
--- what holds of no message, and of one with its next word, holds after them; of one that an own command begins, where it holds of that
+-- what holds of no message, and of one with its next word, holds after them; of one that an own command begins, where it holds of that. The next word that
+-- is no data word leads to a phase between terminals.
 module _ (P : Message → Type 0) (none : P noMessage) (r : WordRecord)
     (staged : (m : Message) → isUnderWay (m .phase) ≡ true → P m → P (stagedOf m r))
-    (moved : (m : Message) (p : Phase) → isUnderWay (m .phase) ≡ true → P m → P (movedOf m p r))
+    (moved : (m : Message) (p : Phase) → isBetween p ≡ true → isUnderWay (m .phase) ≡ true → P m → P (movedOf m p r))
     (s : State) (h : P (s .message)) where
   abbrev holds : State → Type 0
   holds x = P (x .message)
@@ -59,8 +60,8 @@ module _ (P : Message → Type 0) (none : P noMessage) (r : WordRecord)
   next-holds Idle on = h
   next-holds Data on = data-holds on
   next-holds Confirmed on = data-holds on
-  next-holds First on = cond-cases holds (isSecond (s .setup .own) (s .message) r) (λ second. moved (s .message) _ on h) (λ other. data-holds on)
-  next-holds (Pledged address) on = cond-cases holds (isStatusFrom address r) (λ from. moved (s .message) _ on h) (λ other. none)
+  next-holds First on = cond-cases holds (isSecond (s .setup .own) (s .message) r) (λ second. moved (s .message) _ refl on h) (λ other. data-holds on)
+  next-holds (Pledged address) on = cond-cases holds (isStatusFrom address r) (λ from. moved (s .message) _ refl on h) (λ other. none)
 
   pub rules-hold : (isOwn (s .setup .own) r ≡ true → P (begunOf r)) → holds (rules3to6 s r)
   unfolding rules3to6 rule4 rule5

@@ -1,7 +1,7 @@
 -- Which messages are under way. Assumes nothing.
 use mathlib.Core.Path.{_≡_, refl}
 use Prim.Native.Nat.{ℕ}
-use mathlib.Core.Bool.{true, _||_}
+use mathlib.Core.Bool.{true}
 use Rattle.terminal.specs.Messages.{isUnderWay, isCounting, awaitsData, isWhole, isDue, isLate, isBetween, awaitsFirst, isOverdue, isOver}
 use Rattle.terminal.specs.declared.states.Phase.{Phase}
 use Rattle.terminal.specs.declared.states.Phase.the-variants.{Idle, First, Pledged, Confirmed, Data}

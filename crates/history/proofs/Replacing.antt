@@ -76,7 +76,7 @@ rule4-begins s r =
     }
 
 -- an accepted own command on a bus on which the terminal is not sending begins its message
-own-begins : (s : State) (r : WordRecord) (receive transmit : List ℕ) → isAccepted s (Word r) receive transmit ≡ true
+pub own-begins : (s : State) (r : WordRecord) (receive transmit : List ℕ) → isAccepted s (Word r) receive transmit ≡ true
     → isOwn (s .setup .own) r ≡ true
     → rule3 (passedOf s (r .time .0) transmit) r ≡ false
     → Begins (passedOf s (r .time .0) transmit) r (eventOf s (Word r) receive transmit .terminal)

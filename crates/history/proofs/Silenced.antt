@@ -78,7 +78,7 @@ own-to-all own r above is-own =
 word-to-all : (s : State) (r : WordRecord) → 31 ≤ s .setup .own .address → ToAll (s .message) → ToAll (rules3to6 s r .message)
 unfolding begunOf stagedOf movedOf
 word-to-all s r above h =
-    rules-hold ToAll none-to-all r (λ m under to on. to under) (λ m p under to on. to under) s h (λ own on. own-to-all (s .setup .own) r above own)
+    rules-hold ToAll none-to-all r (λ m under to on. to under) (λ m p between under to on. to under) s h (λ own on. own-to-all (s .setup .own) r above own)
 
 event-to-all : (s : State) (e : Event) (transmit : List ℕ) → 31 ≤ s .setup .own .address → ToAll (s .message)
     → ToAll (takenOf (passedOf s (timeOf e) transmit) e .message)

@@ -36,7 +36,7 @@ event-time s e receive transmit ok = ap (λ (x : State). x .time .0) (stepped s 
     go (Word r) = ap (λ (x : Moment). x .0) (rules-time (passedOf s (r .time .0) transmit) r) ∙ (unfold passedOf in refl)
 
 -- no call that may come sets it back
-time-grows : (s : State) (bus : ℕ) (k : Call) → mayCome s bus k ≡ true → s .time .0 ≤ step s k .time .0
+pub time-grows : (s : State) (bus : ℕ) (k : Call) → mayCome s bus k ≡ true → s .time .0 ≤ step s k .time .0
 time-grows s bus k may =
     or-cases (isRefused s k) (isHarmless (s .setup .own) bus k) may
     (λ refusal. rw (refusal-keeps s k refusal) (omega arith))

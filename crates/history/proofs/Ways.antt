@@ -33,7 +33,6 @@ use Rattle.history.proofs.Steps.{accepted, stepped, refused, refused-st
 use Rattle.history.proofs.Passing.{still}
 use Rattle.history.proofs.Marks.{passed-over}
 use Rattle.history.proofs.Phases.{counting-under-way}
-use Rattle.history.proofs.Times.{spaced-most}
 
 -- the terminal as the command left it, but for the host's parts, the self-test request, the time and the message, which is now m
 pub record Way (begun : State) (m : Message) (s : State) : Type 0 where
@@ -45,7 +44,6 @@ pub record Way (begun : State) (m : Message) (s : State) : Type 0 where
 -- a message on that bus, begun by that command word, its last word at that time, with those data words
 pub record Gathered (bus command latest : ℕ) (words : List ℕ) (m : Message) : Type 0 where
   pub counts : isCounting (m .phase) ≡ true
-  pub direct : isBetween (m .phase) ≡ false
   pub on : m .bus ≡ bus
   pub asked : m .command .0 ≡ command
   pub last : m .last .0 ≡ latest
@@ -71,9 +69,11 @@ module _ {bus command latest : ℕ} {words : List ℕ} {m : Message} (g : Gather
   not-late [] t all calm = rw (g .counts, g .asked, g .got, le-ltb (length words) (awaitedOf command) (omega arith))
   not-late (x ∷ rest) t all calm = rw (g .last, le-ltb (latest + spacingMost) t calm) (and-false (isCounting (m .phase) && ltb (m .got) (awaitedOf (m .command .0))))
 
-  pub not-over : (rest : List ℕ) (t : ℕ) → length words + length rest ≡ awaitedOf command → Calm rest latest t → isOver m t ≡ false
+  -- nor is one overdue that awaits no first word of another terminal
+  pub not-over : isBetween (m .phase) ≡ false → (rest : List ℕ) (t : ℕ) → length words + length rest ≡ awaitedOf command → Calm rest latest t
+      → isOver m t ≡ false
   unfolding isOverdue awaitsFirst
-  not-over rest t all calm = rw (not-late rest t all calm, g .direct)
+  not-over direct rest t all calm = rw (not-late rest t all calm, direct)
 
 pub still-answer : (s : State) (e : Event) (receive transmit : List ℕ) → isAccepted s e receive transmit ≡ true
     → isDue (s .message) (timeOf e) ≡ false
@@ -95,7 +95,7 @@ module _ (begun : State) (m : Message) (s : State) (way : Way begun m s) (bus : 
   abbrev pub Rests : ℕ → Type 0
   Rests t = (isDue m t ≡ false) × (isOver m t ≡ false)
 
-  passes : (t : ℕ) (transmit : List ℕ) → Rests t → passedOf s t transmit ≡ atTime s t
+  pub passes : (t : ℕ) (transmit : List ℕ) → Rests t → passedOf s t transmit ≡ atTime s t
   passes t transmit rests = still s t transmit (rw (way .message) (rests .0)) (rw (way .message) (rests .1))
 
   takes : (e : Event) (receive transmit : List ℕ) → isHarmless (s .setup .own) bus (event e receive transmit) ≡ true
@@ -172,7 +172,7 @@ rule5-data Confirmed s r counts sync awaits next = rw (awaits, next)
 rule5-data First s r counts sync awaits next = rw (data-not-second (s .setup .own) (s .message) r sync, awaits, next)
 
 -- rules 3 to 6 come to rule 5
-rules-data : (s : State) (r : WordRecord) → isSending (s .sending) (r .bus) (r .time .0) ≡ false → isOwn (s .setup .own) r ≡ false
+pub rules-data : (s : State) (r : WordRecord) → isSending (s .sending) (r .bus) (r .time .0) ≡ false → isOwn (s .setup .own) r ≡ false
     → isOn (s .message) (r .bus) ≡ true
     → rules3to6 s r ≡ nextWord (s .message .phase) s r
 unfolding rules3to6 rule5
@@ -187,7 +187,6 @@ staged-gathered {words = words} {m = m} g r few =
     let longer : length (words ++ (r .word ∷ [])) ≡ suc (length words) = simp length-append (omega arith) in
     record {
       counts = refl;
-      direct = refl;
       on = g .on;
       asked = g .asked;
       last = refl;
@@ -198,12 +197,8 @@ staged-gathered {words = words} {m = m} g r few =
 
 module _ (begun : State) {m : Message} {s : State} (way : Way begun m s) {bus command latest : ℕ} {words : List ℕ} (g : Gathered bus command latest words m)
     (r : WordRecord) (receive transmit : List ℕ) (next : NextWord s bus latest r receive transmit) (rest : List ℕ)
-    (all : length words + length (r .word ∷ rest) ≡ awaitedOf command) where
-  in-time : (isDue m (r .time .0) ≡ false) × (isOver m (r .time .0) ≡ false)
-  in-time =
-      let calm : r .time .0 ≤ latest + spacingMost = spaced-most latest (r .time .0) (next .spaced) in
-      (not-due g (r .word ∷ rest) (r .time .0) all calm, not-over g (r .word ∷ rest) (r .time .0) all calm)
-
+    (all : length words + length (r .word ∷ rest) ≡ awaitedOf command)
+    (in-time : (isDue m (r .time .0) ≡ false) × (isOver m (r .time .0) ≡ false)) where
   awaits : awaitsData (s .message) ≡ true
   unfolding awaitsData
   awaits = rw (way .message, g .counts, g .asked, g .got, lt-ltb (length words) (awaitedOf command) (omega arith))

@@ -8,13 +8,19 @@ use Rattle.history.specs.Calls.{step, run}
 use Rattle.history.specs.Courses.{over, between, word}
 use Rattle.history.specs.Witnesses.{hears, allLegal, benchAfter, past, asked, noise, sent, given, first, answersTo, answersAt1660, none, itsData, opening, message, losses, atAll, eventLost}
 use Rattle.history.specs.Faults.{asking, broken, aftermath, question, meanwhile, isMarked, fault, wipes, marks, each, reports, reportsAt3260, questioned, untold, markedAtAll, eventUntold}
-use Rattle.history.specs.Demands.{Witness, Needed, MarkWitness, MarkNeeded}
+use Rattle.history.specs.Exchanges.{ordered, exchanged, brought, orders, replies, sends, answersBy2420, heardAt1750, notHeard}
+use Rattle.history.specs.Exchanges as exchange
+use Rattle.history.specs.Demands.{Witness, Needed, MarkWitness, MarkNeeded, ExchangeWitness, ExchangeNeeded}
 
 -- every definition that a history runs through
 unfoldable histories : Unit {0}
 unfolding whole setUpRefusal setUpOf step run hears allLegal benchAfter past asked noise sent given first answersTo answersAt1660 none itsData opening message losses atAll eventLost
     asking broken aftermath question meanwhile isMarked fault wipes marks each reports reportsAt3260 questioned untold markedAtAll eventUntold
 histories = tt
+
+unfoldable exchanges : Unit {0}
+unfolding ordered exchanged brought orders replies sends answersBy2420 heardAt1750 notHeard
+exchanges = tt
 
 -- the plain message is answered, and no message with a broken premise is
 pub needed : Needed
@@ -64,6 +70,51 @@ mark-witness = record {
   exempt = refl;
   runs = between refl (λ e. refl) over;
   taken = refl;
+  then = lit≤ tt;
+  answer = refl;
+}
+
+-- a message between terminals is answered, and none with a broken premise is
+pub exchange-needed : ExchangeNeeded
+unfolding histories exchanges
+exchange-needed = (tt, tt)
+
+-- the two commands, the status, the two data words, and each call between
+pub exchange-witness : ExchangeWitness
+unfolding histories exchanges isAnswer sameWords
+exchange-witness = record {
+  set = refl;
+  address = lit≤ tt;
+  asks = record { accepted = refl; valid = refl; sync = refl; own = refl; quiet = refl; transmitter = refl };
+  receives = refl;
+  plain = refl;
+  count = refl;
+  runs =
+      exchange.between refl
+      (exchange.second
+      (record {
+        accepted = refl;
+        valid = refl;
+        sync = refl;
+        on = refl;
+        spaced = refl;
+        transmits = refl;
+        another = refl;
+        one = refl;
+        plain = refl;
+        count = refl;
+      })
+      (exchange.between refl
+      (exchange.between refl
+      (exchange.between refl
+      (exchange.status (record { accepted = refl; valid = refl; sync = refl; on = refl; from = refl })
+      (exchange.between refl
+      (exchange.between refl
+      (exchange.between refl
+      (exchange.first (record { accepted = refl; valid = refl; sync = refl; on = refl; spaced = refl }) (lit≤ tt)
+      (between refl (λ e. refl)
+      (word (record { accepted = refl; valid = refl; sync = refl; on = refl; spaced = refl }) (between refl (λ e. refl) over))))))))))));
+  accepted = refl;
   then = lit≤ tt;
   answer = refl;
 }

@@ -14,13 +14,11 @@ use Rattle.terminal.specs.Messages.{isUnderWay}
 use Rattle.terminal.specs.Rules.{rule3}
 use Rattle.terminal.specs.Events.{timeOf, eventOf, passedOf}
 use Rattle.terminal.specs.Cards.{mark, heard, command, dataWord, badWord, isAnswer, zeros}
-use Rattle.terminal.specs.declared.states.Message.{Message}
 use Rattle.terminal.specs.declared.states.Terminal.{Terminal as State}
 use Rattle.terminal.specs.declared.hosts.NextMoment.{NextMoment}
 use Rattle.terminal.specs.declared.hosts.NextMoment.the-variants.{At}
-use Rattle.terminal.specs.declared.events.Event.{Event}
 use Rattle.terminal.specs.declared.events.Event.the-variants.{Word}
-use Rattle.history.specs.Calls.{Call, setUp, event, host, restart, busy, isAccepted, isSetUp, step, run}
+use Rattle.history.specs.Calls.{Call, event, host, restart, busy, isAccepted, isSetUp, step, run}
 use Rattle.history.specs.Courses.{Command, NextWord, mayCome, Course, NoOwn}
 use Rattle.history.specs.Witnesses.{hears, allLegal, benchAfter, answersTo}
 

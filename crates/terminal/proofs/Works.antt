@@ -4,7 +4,7 @@ use mathlib.Core.Bool.{Bool, true, false, cond}
 use mathlib.Core.List.{List}
 use Prim.Native.Nat.{ℕ}
 use Rattle.terminal.specs.States.{atTime}
-use Rattle.terminal.specs.Messages.{awaitsData, isWhole, isDue, isLate, awaitsFirst, isOverdue, isOver}
+use Rattle.terminal.specs.Messages.{awaitsData, isDue, isLate, awaitsFirst, isOverdue, isOver}
 use Rattle.terminal.specs.Rules.{settledOf, rule1, faultyOf, rule2}
 use Rattle.terminal.specs.Events.{passedOf}
 use Rattle.terminal.specs.Works.{workOf, withWork, bareOf}

@@ -263,7 +263,15 @@ impl Message {
     pub(crate) fn none() -> Message
         ensures message { λ r. ⌜ r ≡ noMessage ⌝ }
     {
-        Message::build(Phase::Idle, 0, CommandWord(0), Moment(0), Moment(0), 0, [0; 32])
+        Message::build(
+            Phase::Idle,
+            0,
+            CommandWord(0),
+            Moment(0),
+            Moment(0),
+            0,
+            [0; 32],
+        )
     }
 
     // The message in another phase, its last word then.

@@ -1,5 +1,5 @@
 -- By whether the last word came more than 545 after the command. Assumes nothing.
-use mathlib.Core.Path.{sym, _∙_}
+use mathlib.Core.Path.{sym}
 use Rattle.terminal.specs.Messages.{isOverdue}
 use Rattle.terminal.specs.Rules.{timeFault}
 use Rattle.terminal.proofs.Spans.{since-more-of}

@@ -2,7 +2,6 @@
 use mathlib.Core.Path.{refl, sym, _∙_}
 use Rattle.terminal.specs.Events.{nextMomentOf}
 use Rattle.terminal.specs.declared.states.Phase.the-variants.{Idle, First, Pledged, Confirmed, Data}
-use Rattle.terminal.specs.declared.hosts.NextMoment.the-variants.{At}
 use Rattle.terminal.proofs.Wrapped.{moment-is}
 use Rattle.terminal.proofs.Moments.{at-phase}
 use borrow.Author.Needs.{needs}
