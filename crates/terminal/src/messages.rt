@@ -2,7 +2,7 @@
 // Refusals: none.
 ghost use mathlib.Core.Path.{_≡_};
 ghost use Rattle.words.specs.Words.{isSpaced};
-ghost use Rattle.terminal.specs.Messages.{isUnderWay, isOn, isCounting, awaitsData, isWhole, isDue, isLate, isBetween, awaitsFirst, isOverdue, isOver, isSending, isNextData, isSecond, isStatusFrom};
+ghost use Rattle.terminal.specs.Messages.{isUnderWay, isOn, isCounting, awaitsData, isWhole, isDue, isLate, awaitsFirst, isOverdue, isOver, isSending, isNextData, isSecond, isStatusFrom};
 use crate::commands::is_valid_record;
 use crate::states::Message;
 use crate::states::Own;
@@ -41,19 +41,6 @@ impl Phase {
             Phase::Pledged(_) => false,
             Phase::Confirmed => true,
             Phase::Data => true,
-        }
-    }
-
-    // Says whether a message between terminals has no data word yet, from the second command word on.
-    fn is_between(self) -> bool
-        ensures answer { λ r. ⌜ r ≡ isBetween self ⌝ }
-    {
-        match self {
-            Phase::Idle => false,
-            Phase::First => false,
-            Phase::Pledged(_) => true,
-            Phase::Confirmed => true,
-            Phase::Data => false,
         }
     }
 }
@@ -106,7 +93,13 @@ impl Message {
         ensures answer { λ r. ⌜ r ≡ awaitsFirst self ⌝ }
     {
         let phase = self.phase;
-        phase.is_between() & !self.is_whole()
+        match phase {
+            Phase::Idle => false,
+            Phase::First => false,
+            Phase::Pledged(_) => true,
+            Phase::Confirmed => self.awaits_data(),
+            Phase::Data => false,
+        }
     }
 
     // Says whether it is awaited for too long.
