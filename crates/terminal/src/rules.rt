@@ -28,7 +28,6 @@ use words::Flag;
 use words::Moment;
 use words::Spacing;
 use words::StatusWord;
-use words::Ticks;
 
 // What rules 1 and 2 give: the work after them, and the answer that the event carries.
 pub struct Passed {
@@ -98,16 +97,14 @@ impl Held {
     }
 }
 
-// A message of which a data word comes later than this after its command is overdue before it is late.
-const OVERDUE_FIRST: Ticks = Ticks(545);
-
 impl Message {
     // Gives the spacing fault of a message whose time is over: separated, and none where it was overdue before it was late (DECISIONS 78).
     fn time_fault(self) -> SpacingFault
         ensures fault { λ r. ⌜ r ≡ timeFault self ⌝ }
     {
         let waited = self.last.since(self.start);
-        if self.awaits_data() & !(self.awaits_first() & (OVERDUE_FIRST.0 < waited.0)) {
+        let before = Terminal::FIRST_WORD_DISTANCE.0 - Terminal::SPACING_MOST.0;
+        if self.awaits_data() & !(self.awaits_first() & (before < waited.0)) {
             return SpacingFault::Separated;
         }
         SpacingFault::None
