@@ -1,17 +1,17 @@
 -- A message between terminals, within the limits, is answered as any other. Assumes nothing.
 use mathlib.Core.Path.{_≡_, refl, sym, ap, _∙_}
 use Prim.Native.Nat.{ℕ, _+_, _≤_}
-use mathlib.Core.Bool.{true, false, not, _&&_}
+use mathlib.Core.Bool.{true, false, _&&_}
 use mathlib.Core.List.{List, [], _∷_}
 use native.Mathlib.Omega.{arith}
-use lib.Dec.{eqb, leb}
+use lib.Dec.{eqb}
 use lib.ListN.{length}
-use borrow.Author.Tests.{leb-true, le-leb, lt-leb, le-ltb, eq-eqb}
+use borrow.Author.Tests.{lt-leb, le-ltb, eq-eqb}
 use Rattle.words.specs.Words.{spacingMost, addressOf, isTransmit, isMode, isBroadcast, commandSync, awaitedOf}
 use Rattle.records.specs.declared.forms.WordRecord.{WordRecord}
 use Rattle.terminal.specs.States.{withMessage, atTime}
 use Rattle.terminal.specs.Commands.{isValidRecord, isOwn}
-use Rattle.terminal.specs.Messages.{isUnderWay, isOn, isCounting, awaitsData, isWhole, isDue, isLate, isBetween, awaitsFirst, isOverdue, isOver, isSending, isSecond, isStatusFrom}
+use Rattle.terminal.specs.Messages.{isUnderWay, isOn, isCounting, isWhole, isDue, isOver, isSending, isSecond, isStatusFrom}
 use Rattle.terminal.specs.Rules.{firstPhase, begunOf, stagedOf, movedOf, nextWord, rules3to6}
 use Rattle.terminal.specs.Events.{timeOf}
 use Rattle.terminal.specs.declared.states.Own.{Own}
@@ -28,6 +28,7 @@ use Rattle.history.specs.Calls.{afterPast}
 use Rattle.history.proofs.Tests.{and-false}
 use Rattle.history.proofs.Steps.{stepped, not-earlier}
 use Rattle.history.proofs.Times.{event-time, time-grows, spaced-most}
+use Rattle.history.proofs.Phases.{not-due, over-at}
 use Rattle.history.proofs.Ways.{Way, Gathered, passes, InTime, call-keeps, still-answer, rules-data, staged-gathered, word-moves, word-silent}
 use Rattle.history.proofs.Carrying.{Arrived, carry}
 use Rattle.history.proofs.Begun.{begun-way}
@@ -70,40 +71,21 @@ Within r asked t = t ≤ r .time .0 + spacingMost
 Within r (pledged address) t = t ≤ r .time .0 + 750
 Within r (confirmed last) t = (t ≤ last + spacingMost) × (t ≤ r .time .0 + 750)
 
-module _ (m : Message) (t : ℕ) where
-  -- not late before its time, nor where it counts no data words
-  not-late : leb t (m .last .0 + spacingMost) ≡ true → isLate m t ≡ false
-  unfolding isLate
-  not-late before = rw (le-ltb (m .last .0 + spacingMost) t (leb-true t (m .last .0 + spacingMost) before)) (and-false (awaitsData m))
-
-  uncounted : isCounting (m .phase) ≡ false → isLate m t ≡ false
-  unfolding isLate awaitsData
-  uncounted not = rw not refl
-
-  -- not overdue before its time, nor where it awaits no first word of another terminal
-  not-overdue : leb t (m .start .0 + 750) ≡ true → isOverdue m t ≡ false
-  unfolding isOverdue
-  not-overdue before = rw (le-ltb (m .start .0 + 750) t (leb-true t (m .start .0 + 750) before)) (and-false (awaitsFirst m))
-
-  direct : isBetween (m .phase) ≡ false → isOverdue m t ≡ false
-  unfolding isOverdue awaitsFirst
-  direct not = rw not refl
-
 module _ {own : Own} {r : WordRecord} {m : Message} (some : 1 ≤ awaitedOf (r .word)) (t : ℕ) where
-  not-due : {stage : Stage} → Come own r stage m → isDue m t ≡ false
-  unfolding isDue isWhole
-  not-due c = rw (c .command, c .got, lt-leb (awaitedOf (r .word)) 0 (omega (arith, some)), and-false (isCounting (m .phase)))
+  missing : {stage : Stage} → Come own r stage m → isWhole m ≡ false
+  unfolding isWhole
+  missing c = rw (c .command, c .got, lt-leb (awaitedOf (r .word)) 0 (omega (arith, some)), and-false (isCounting (m .phase)))
 
   not-over : (stage : Stage) → Come own r stage m → Within r stage t → isOver m t ≡ false
-  not-over asked c within =
-      rw (not-late m t (le-leb t (m .last .0 + spacingMost) (omega (arith, within, c .last))), direct m t (ap isBetween (c .phase))) refl
+  not-over asked c within = over-at m (missing c) First t (c .phase) ∙ le-ltb (m .last .0 + 205) t (omega (arith, within, c .last))
   not-over (pledged address) c within =
-      rw (uncounted m t (ap isCounting (c .phase)), not-overdue m t (le-leb t (m .start .0 + 750) (omega (arith, within, c .start)))) refl
+      over-at m (missing c) (Pledged address) t (c .phase) ∙ le-ltb (m .start .0 + 750) t (omega (arith, within, c .start))
   not-over (confirmed last) c within =
-      rw (not-late m t (le-leb t (m .last .0 + spacingMost) (omega (arith, within .0, c .last))), not-overdue m t (le-leb t (m .start .0 + 750) (omega (arith, within .1, c .start)))) refl
+      over-at m (missing c) Confirmed t (c .phase)
+      ∙ rw (le-ltb (m .last .0 + 205) t (omega (arith, within .0, c .last)), le-ltb (m .start .0 + 750) t (omega (arith, within .1, c .start))) refl
 
   rests : (stage : Stage) → Come own r stage m → Within r stage t → (isDue m t ≡ false) × (isOver m t ≡ false)
-  rests stage c within = (not-due c, not-over stage c within)
+  rests stage c within = (not-due m (missing c) t, not-over stage c within)
 
 -- what is to come within the limits comes after what is there
 earlier-within : (r : WordRecord) (stage : Stage) (t u : ℕ) → t ≤ u → Within r stage u → Within r stage t
@@ -293,7 +275,7 @@ exchange begun {r} {s = s} {m = m} way c all (status {address = address} {x = x}
 exchange begun {r} {s = s} {m = m} way c all (first {last = last} {words = more} {x = x} {receive = receive} {transmit = transmit} next limit course) =
     let g = come-gathered c in
     let some : 1 ≤ awaitedOf (r .word) = omega arith in
-    let in-time = rests some (x .time .0) (confirmed last) c (spaced-most last (x .time .0) (next .spaced), limit) in
+    let in-time = rests some (x .time .0) (confirmed last) c (spaced-most last (x .time .0) (next .spaced), omega (arith, limit)) in
     let rest =
     carry begun (r .bus) (r .word) (x .word ∷ [])
     (word-moves begun way g x receive transmit next more (omega (arith, all)) in-time)

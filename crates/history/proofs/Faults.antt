@@ -3,14 +3,12 @@ use mathlib.Core.Path.{_≡_, refl, sym, ap, _∙_}
 use Prim.Native.Nat.{ℕ}
 use mathlib.Core.Bool.{Bool, true, false, not, cond, _&&_, _||_, or-true}
 use mathlib.Core.List.{List}
-use lib.Dec.{ltb}
-use borrow.Author.Tests.{ltb-true, lt-leb, not-true}
-use Rattle.words.specs.Words.{awaitedOf}
+use borrow.Author.Tests.{not-true}
 use Rattle.words.proofs.Truth.{and-both}
 use Rattle.records.specs.declared.forms.WordRecord.{WordRecord}
 use Rattle.terminal.specs.States.{atTime}
 use Rattle.terminal.specs.Commands.{isOwn, isExempt}
-use Rattle.terminal.specs.Messages.{isUnderWay, isOn, isCounting, awaitsData, isWhole, isDue, isLate, awaitsFirst, isOverdue, isOver, isNextData, isSecond}
+use Rattle.terminal.specs.Messages.{isUnderWay, isOn, awaitsData, isWhole, isDue, isLate, awaitsFirst, isOverdue, isOver, isNextData, isSecond}
 use Rattle.terminal.specs.Rules.{settledOf, rule1, faultyOf, timeFault, rule2, rule3, firstPhase, begunOf, rule4, stagedOf, movedOf, faultIn, nextData, nextWord, rule5, rules3to6}
 use Rattle.terminal.specs.Events.{timeOf, passedOf, takenOf}
 use Rattle.terminal.specs.declared.states.SpacingFault.{SpacingFault}
@@ -23,7 +21,7 @@ use Rattle.terminal.specs.declared.events.Event.the-variants.{Mark, Word}
 use Rattle.history.specs.States.{isNextWord, isBadWord, wordKind, EventFault, noFault, aFault, isFault, wordFault, faultOf, marksFault, MadeFaulty, ComesToFault, by-time, by-word}
 use Rattle.history.specs.Demands.{FaultExactly}
 use Rattle.history.proofs.Tests.{true≢, false≢, cond-cases, and-left, and-right, or-false, or-cases}
-use Rattle.history.proofs.Phases.{counting-under-way, over-under-way}
+use Rattle.history.proofs.Phases.{counting-under-way, awaits-missing, over-under-way}
 use Rattle.history.proofs.Passing.{still, passed-under-way}
 use Rattle.history.proofs.Begun.{first-counts}
 
@@ -51,23 +49,16 @@ fault-either s e transmit = either-if (isOver (s .message) (timeOf e)) _ _ _ (by
 
 -- ---- a marked fault comes of the rules
 
--- a message that is late is not due
-late-not-due : (m : Message) (t : ℕ) → isLate m t ≡ true → isDue m t ≡ false
-unfolding isLate isDue awaitsData isWhole
-late-not-due m t late =
-    let counts : isCounting (m .phase) ≡ true = search (and-left, late) in
-    let awaits : ltb (m .got) (awaitedOf (m .command .0)) ≡ true = search (and-left, and-right, late) in
-    rw (counts, lt-leb (awaitedOf (m .command .0)) (m .got) (ltb-true (m .got) (awaitedOf (m .command .0)) awaits))
-
--- nor is one that is overdue
-overdue-not-due : (m : Message) (t : ℕ) → isOverdue m t ≡ true → isDue m t ≡ false
-unfolding isOverdue awaitsFirst isDue
-overdue-not-due m t overdue =
-    let missing : isWhole m ≡ false = not-true (isWhole m) (search (and-left, and-right, overdue)) in
-    rw missing
+-- a message whose time is over is not whole, and so not due
+pub over-missing : (m : Message) (t : ℕ) → isOver m t ≡ true → isWhole m ≡ false
+unfolding isLate isOverdue awaitsFirst
+over-missing m t over =
+    or-cases (isLate m t) (isOverdue m t) over (λ late. awaits-missing m (search (and-left, late)))
+    (λ overdue. not-true (isWhole m) (search (and-left, and-right, overdue)))
 
 pub over-not-due : (m : Message) (t : ℕ) → isOver m t ≡ true → isDue m t ≡ false
-over-not-due m t over = or-cases (isLate m t) (isOverdue m t) over (late-not-due m t) (overdue-not-due m t)
+unfolding isDue
+over-not-due m t over = rw (over-missing m t over)
 
 pub due-in-time : (m : Message) (t : ℕ) → isDue m t ≡ true → isOver m t ≡ false
 due-in-time m t due = go (isOver m t) refl

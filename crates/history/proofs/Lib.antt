@@ -27,5 +27,6 @@ pub mod Spacings
 pub mod Pasts
 pub mod Replacing
 pub mod Limits
+pub mod Moments
 pub mod Exchanging
 pub mod Witnessed

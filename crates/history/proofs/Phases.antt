@@ -1,13 +1,16 @@
--- Which messages are under way. Assumes nothing.
-use mathlib.Core.Path.{_≡_, refl}
-use Prim.Native.Nat.{ℕ}
-use mathlib.Core.Bool.{true}
+-- Which messages are under way, and when the time of one is over, by its phase. Assumes nothing.
+use mathlib.Core.Path.{_≡_, refl, ap}
+use Prim.Native.Nat.{ℕ, _+_}
+use mathlib.Core.Bool.{Bool, true, false, _||_}
+use lib.Dec.{ltb, leb}
+use borrow.Author.Tests.{leb-false, ltb-true, lt-ltb, lt-leb}
+use Rattle.words.specs.Words.{awaitedOf}
 use Rattle.terminal.specs.Messages.{isUnderWay, isCounting, awaitsData, isWhole, isDue, isLate, isBetween, awaitsFirst, isOverdue, isOver}
 use Rattle.terminal.specs.declared.states.Phase.{Phase}
 use Rattle.terminal.specs.declared.states.Phase.the-variants.{Idle, First, Pledged, Confirmed, Data}
 use Rattle.terminal.specs.declared.states.Message.{Message}
 use Rattle.history.specs.States.{isOpening}
-use Rattle.history.proofs.Tests.{and-left, or-cases}
+use Rattle.history.proofs.Tests.{and-left, and-right, or-cases}
 
 -- one that counts data words
 pub counting-under-way : (p : Phase) → isCounting p ≡ true → isUnderWay p ≡ true
@@ -30,6 +33,14 @@ pub awaits-under-way : (m : Message) → awaitsData m ≡ true → isUnderWay (m
 unfolding awaitsData
 awaits-under-way m awaits = search (counting-under-way, and-left)
 
+-- and it is not whole
+pub awaits-missing : (m : Message) → awaitsData m ≡ true → isWhole m ≡ false
+unfolding awaitsData isWhole
+awaits-missing m awaits =
+    let counts : isCounting (m .phase) ≡ true = search (and-left, awaits) in
+    let less : ltb (m .got) (awaitedOf (m .command .0)) ≡ true = search (and-right, awaits) in
+    rw (counts, lt-leb (awaitedOf (m .command .0)) (m .got) (ltb-true (m .got) (awaitedOf (m .command .0)) less))
+
 -- one that is due
 pub due-under-way : (m : Message) (t : ℕ) → isDue m t ≡ true → isUnderWay (m .phase) ≡ true
 unfolding isDue isWhole
@@ -48,3 +59,51 @@ pub over-under-way : (m : Message) (t : ℕ) → isOver m t ≡ true → isUnder
 unfolding isLate isOverdue awaitsFirst
 over-under-way m t over =
     or-cases (isLate m t) (isOverdue m t) over (λ late. search (awaits-under-way, and-left)) (λ overdue. search (between-under-way, and-left))
+
+-- ---- what a message that is not whole waits for, by its phase
+
+abbrev pub overAt : Phase → Message → ℕ → Bool
+overAt Idle m t = false
+overAt First m t = ltb (m .last .0 + 205) t
+overAt (Pledged address) m t = ltb (m .start .0 + 750) t
+overAt Confirmed m t = ltb (m .last .0 + 205) t || ltb (m .start .0 + 750) t
+overAt Data m t = ltb (m .last .0 + 205) t
+
+or-off : (b : Bool) → (b || false) ≡ b
+or-off true = refl
+or-off false = refl
+
+module _ (m : Message) (missing : isWhole m ≡ false) where
+  pub not-due : (t : ℕ) → isDue m t ≡ false
+  unfolding isDue
+  not-due t = rw missing refl
+
+  -- one that counts its data words awaits one
+  pub counts-awaits : isCounting (m .phase) ≡ true → awaitsData m ≡ true
+  unfolding awaitsData isWhole
+  counts-awaits counts =
+      let less : leb (awaitedOf (m .command .0)) (m .got) ≡ false = rw counts at missing in
+      rw (counts, lt-ltb (m .got) (awaitedOf (m .command .0)) (leb-false (awaitedOf (m .command .0)) (m .got) less)) refl
+
+  late-at : (t : ℕ) → isCounting (m .phase) ≡ true → isLate m t ≡ ltb (m .last .0 + 205) t
+  unfolding isLate
+  late-at t counts = rw (counts-awaits counts) refl
+
+  uncounted : (t : ℕ) → isCounting (m .phase) ≡ false → isLate m t ≡ false
+  unfolding isLate awaitsData
+  uncounted t not = rw not refl
+
+  overdue-at : (t : ℕ) → isBetween (m .phase) ≡ true → isOverdue m t ≡ ltb (m .start .0 + 750) t
+  unfolding isOverdue awaitsFirst
+  overdue-at t between = rw (between, missing) refl
+
+  direct : (t : ℕ) → isBetween (m .phase) ≡ false → isOverdue m t ≡ false
+  unfolding isOverdue awaitsFirst
+  direct t not = rw not refl
+
+  pub over-at : (p : Phase) (t : ℕ) → m .phase ≡ p → isOver m t ≡ overAt p m t
+  over-at Idle t is = rw (uncounted t (ap isCounting is), direct t (ap isBetween is)) refl
+  over-at First t is = rw (late-at t (ap isCounting is), direct t (ap isBetween is)) (or-off (ltb (m .last .0 + 205) t))
+  over-at (Pledged address) t is = rw (uncounted t (ap isCounting is), overdue-at t (ap isBetween is)) refl
+  over-at Confirmed t is = rw (late-at t (ap isCounting is), overdue-at t (ap isBetween is)) refl
+  over-at Data t is = rw (late-at t (ap isCounting is), direct t (ap isBetween is)) (or-off (ltb (m .last .0 + 205) t))

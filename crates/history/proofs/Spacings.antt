@@ -8,12 +8,12 @@ use native.Mathlib.Nat.{lt-of-not-le}
 use native.Mathlib.Decide.{decLe}
 use native.Mathlib.Omega.{arith}
 use lib.Dec.{eqb, ltb, leb}
-use borrow.Author.Tests.{eqb-true, ltb-true, ltb-false, le-ltb, lt-ltb, le-leb, lt-leb, leb-false, not-true}
-use Rattle.words.specs.Words.{sinceOf, spacingLeast, spacingMost, spacingOf, codeOf, isMode, awaitedOf}
+use borrow.Author.Tests.{eqb-true, ltb-false, le-ltb, lt-ltb, le-leb, lt-leb}
+use Rattle.words.specs.Words.{sinceOf, spacingLeast, spacingMost, spacingOf, codeOf, isMode}
 use Rattle.records.specs.declared.forms.WordRecord.{WordRecord}
 use Rattle.terminal.specs.States.{withStatus, noMessage, spacingIn}
 use Rattle.terminal.specs.Commands.{isOwn, isExempt, isLegal}
-use Rattle.terminal.specs.Messages.{isUnderWay, isOn, isCounting, awaitsData, isWhole, isDue, isLate, isBetween, awaitsFirst, isOverdue, isOver, isNextData, isSecond}
+use Rattle.terminal.specs.Messages.{isUnderWay, isOn, isCounting, awaitsData, isDue, isLate, isBetween, awaitsFirst, isOverdue, isOver, isNextData, isSecond}
 use Rattle.terminal.specs.Effects.{effectOf, heldAfter}
 use Rattle.terminal.specs.Rules.{settledOf, markedOf, keptBy, faultyOf, timeFault, rule3, notedStatus, notedCommand, rule4, faultBy, faultIn, nextData, nextWord, rule5, rules3to6}
 use Rattle.terminal.specs.Events.{timeOf, setUpOf, passedOf, takenOf}
@@ -33,11 +33,12 @@ use Rattle.history.specs.Calls.{Call, setUp, event, host, clearSelftest,
 use Rattle.history.specs.States.{isUnderWayOn, isNextWord, isBadWord, noFault, aFault, wordKind, wordFault, timeKind}
 use Rattle.history.specs.Kinds.{Change, leaves, sets, byFault, isReset, byEvent, changeBy, afterChange, lastKind, AllLeaveKind}
 use Rattle.history.specs.Demands.{SpacingKept, SpacingKeptAfterAnyPast, SpacingLatest, KindAsAMark}
-use Rattle.history.proofs.Tests.{true≢, false≢, cond-cases, and-left, and-right, or-false, or-cases}
+use Rattle.history.proofs.Tests.{true≢, false≢, cond-cases, or-false, or-cases}
 use Rattle.history.proofs.Steps.{stepped, refused-stays}
+use Rattle.history.proofs.Phases.{awaits-missing, counts-awaits}
 use Rattle.history.proofs.Passing.{still, due-ends}
 use Rattle.history.proofs.Marks.{as-a-mark}
-use Rattle.history.proofs.Faults.{over-not-due, due-in-time, bad-faulty, bad-under-way}
+use Rattle.history.proofs.Faults.{over-missing, over-not-due, due-in-time, bad-faulty, bad-under-way}
 use Rattle.history.proofs.Polling.{due-or-over, due-passed, over-passed, over-ends, passed-in-time}
 
 abbrev kindIn : State → SpacingFault
@@ -188,24 +189,6 @@ idle-sound s (Word r) idle = go (isBadWord s r) refl
 
 -- ---- time
 
--- a message whose time is over, and that counts its data words, still awaits one
-over-awaits : (m : Message) (t : ℕ) → isCounting (m .phase) ≡ true → isOver m t ≡ true → awaitsData m ≡ true
-unfolding isLate isOverdue awaitsFirst awaitsData isWhole
-over-awaits m t counts over =
-    or-cases (isLate m t) (isOverdue m t) over
-    (λ late. search (and-left, late))
-    (λ overdue.
-    let missing : leb (awaitedOf (m .command .0)) (m .got) ≡ false = rw counts at (not-true (isWhole m) (search (and-left, and-right, overdue))) in
-    rw (counts, lt-ltb (m .got) (awaitedOf (m .command .0)) (leb-false (awaitedOf (m .command .0)) (m .got) missing)))
-
--- one that awaits a data word is not whole
-awaits-missing : (m : Message) → awaitsData m ≡ true → isWhole m ≡ false
-unfolding awaitsData isWhole
-awaits-missing m awaits =
-    let counts : isCounting (m .phase) ≡ true = search (and-left, awaits) in
-    let less : ltb (m .got) (awaitedOf (m .command .0)) ≡ true = search (and-right, awaits) in
-    rw (counts, lt-leb (awaitedOf (m .command .0)) (m .got) (ltb-true (m .got) (awaitedOf (m .command .0)) less))
-
 -- one that awaits a data word, and no first one of another terminal, is late and not overdue
 direct-kind : (m : Message) → awaitsData m ≡ true → isBetween (m .phase) ≡ false → timeFault m ≡ Separated
 unfolding timeFault isOverdue awaitsFirst
@@ -227,7 +210,7 @@ unfolding timeFault awaitsData
 time-kinds m t over = go (m .phase) refl
   where
     counts : (p : Phase) → m .phase ≡ p → isCounting p ≡ true → awaitsData m ≡ true
-    counts p is h = over-awaits m t (ap isCounting is ∙ h) over
+    counts p is h = counts-awaits m (over-missing m t over) (ap isCounting is ∙ h)
 
     go : (p : Phase) → m .phase ≡ p → timeFault m ≡ timeKind p m
     go Idle is = rw is refl

@@ -64,7 +64,7 @@ word-marked s (Word r) transmit plain bad =
     rw (bad-faulty x r bad, now) (faulty-marked (atTime s (r .time .0)) _ plain)
 
 -- by either
-event-marks : (s : State) (e : Event) (receive transmit : List ℕ) → isAccepted s e receive transmit ≡ true → marksFault s e transmit ≡ true
+pub event-marks : (s : State) (e : Event) (receive transmit : List ℕ) → isAccepted s e receive transmit ≡ true → marksFault s e transmit ≡ true
     → leavesStatus (s .setup .own) (event e receive transmit) ≡ true
     → Standing (s .setup) (withFlag MessageError (s .held .status .0)) (step s (event e receive transmit))
 event-marks s e receive transmit ok marks outside =

@@ -8,7 +8,7 @@ use Rattle.history.specs.Calls.{step, run}
 use Rattle.history.specs.Courses.{over, between, word}
 use Rattle.history.specs.Witnesses.{hears, allLegal, benchAfter, past, asked, noise, sent, given, first, answersTo, answersAt1660, none, itsData, opening, message, losses, atAll, eventLost}
 use Rattle.history.specs.Faults.{asking, broken, aftermath, question, meanwhile, isMarked, fault, wipes, marks, each, reports, reportsAt3260, questioned, untold, markedAtAll, eventUntold}
-use Rattle.history.specs.Exchanges.{ordered, exchanged, brought, orders, replies, sends, answersBy2420, heardAt1750, notHeard}
+use Rattle.history.specs.Exchanges.{ordered, exchanged, brought, orders, replies, sends, answersBy2420, heardAt1600, heardAt1750, secondIs, statusIs, firstIs, notHeard, waits}
 use Rattle.history.specs.Exchanges as exchange
 use Rattle.history.specs.Demands.{Witness, Needed, MarkWitness, MarkNeeded, ExchangeWitness, ExchangeNeeded}
 
@@ -19,7 +19,7 @@ unfolding whole setUpRefusal setUpOf step run hears allLegal benchAfter past ask
 histories = tt
 
 unfoldable exchanges : Unit {0}
-unfolding ordered exchanged brought orders replies sends answersBy2420 heardAt1750 notHeard
+unfolding ordered exchanged brought orders replies sends answersBy2420 heardAt1600 heardAt1750 secondIs statusIs firstIs notHeard waits
 exchanges = tt
 
 -- the plain message is answered, and no message with a broken premise is
@@ -77,7 +77,7 @@ mark-witness = record {
 -- a message between terminals is answered, and none with a broken premise is
 pub exchange-needed : ExchangeNeeded
 unfolding histories exchanges
-exchange-needed = (tt, tt)
+exchange-needed = (tt, tt, tt, tt)
 
 -- the two commands, the status, the two data words, and each call between
 pub exchange-witness : ExchangeWitness

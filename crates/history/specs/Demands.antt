@@ -1,8 +1,9 @@
 -- THE FIRST FILE TO READ. Demand 3 of the user, clause by clause, and what stands beside it: the same of a message between terminals, and that none
--- waits longer than it may; time marks before an event do not matter; the kind of the last spacing fault; no word on one bus wipes out a fault of the other, nor anything else of the stored status; refusals change nothing, and what a
--- refused set-up gives never answers; what an own command does to what is under way; what can be reached, and what every answer's status has; histories
--- that meet every premise. A statement is a type; its proof has the name above it and stands in proofs/. `Calls`, `Courses`, `Exchanges`, `States`,
--- `Kinds`, `Witnesses` and `Faults` say the words. Assumes nothing.
+-- waits longer than it may; time marks before an event do not matter, and when one does; the kind of the last spacing fault; no word on one bus wipes
+-- out a fault of the other, nor anything else of the stored status; refusals change nothing, and what a refused set-up gives never answers; what an
+-- own command does to what is under way; what can be reached, and what every answer's status has; histories that meet every premise. A statement is a
+-- type; its proof has the name above it and stands in proofs/. `Calls`, `Courses`, `Exchanges`, `States`, `Kinds`, `Witnesses` and `Faults` say the
+-- words. Assumes nothing.
 use mathlib.Core.Path.{_≡_}
 use Prim.Native.Nat.{ℕ, _+_, _≤_, _<_}
 use mathlib.Core.Bool.{true, false, cond, _&&_}
@@ -16,7 +17,7 @@ use Rattle.words.specs.Refusals.{notRefused}
 use Rattle.words.specs.declared.times.Moment.{Moment}
 use Rattle.words.specs.declared.statuses.Flag.the-variants.{MessageError}
 use Rattle.records.specs.declared.forms.WordRecord.{WordRecord}
-use Rattle.terminal.specs.States.{spacingIn, noMessage, noSending, freshOf, withHost}
+use Rattle.terminal.specs.States.{spacingIn, noMessage, noSending, freshOf, withHost, atTime}
 use Rattle.terminal.specs.Commands.{isOwn, isExempt}
 use Rattle.terminal.specs.Messages.{isUnderWay, isSending}
 use Rattle.terminal.specs.Settling.{otherBus, settledStatus, firstPlace, replyOf, storesData, noAnswer}
@@ -27,6 +28,7 @@ use Rattle.terminal.specs.declared.states.SpacingFault.the-variants.{None}
 use Rattle.terminal.specs.declared.states.Setup.{Setup}
 use Rattle.terminal.specs.declared.states.Terminal.{Terminal as State}
 use Rattle.terminal.specs.declared.answers.Answer.{Answer}
+use Rattle.terminal.specs.declared.hosts.NextMoment.the-variants.{At, Never}
 use Rattle.terminal.specs.declared.events.Event.{Event}
 use Rattle.terminal.specs.declared.events.Event.the-variants.{Mark, Word}
 use Rattle.terminal.specs.declared.events.Happened.{Happened}
@@ -36,7 +38,7 @@ use Rattle.history.specs.Courses.{Command, Course, Silent, NoOwn, NoSetU
 use Rattle.history.specs.States.{isUnderWayOn, marksFault, ComesToFault, AtRest, Sound}
 use Rattle.history.specs.Kinds.{sets, changeBy, lastKind, AllLeaveKind}
 use Rattle.history.specs.Witnesses.{Met, answersAt1660, none, message, losses, eventLost}
-use Rattle.history.specs.Exchanges.{asked, Exchange, Waits, NotPast, ExchangeMet, answersBy2420, heardAt1750, notHeard}
+use Rattle.history.specs.Exchanges.{asked, Exchange, Waits, NotPast, momentWhile, ExchangeMet, answersBy2420, heardAt1600, heardAt1750, notHeard, waits}
 use Rattle.history.specs.Faults.{MarkMet, isMarked, each, marks, wipes, reportsAt3260, questioned, untold, eventUntold}
 
 -- ==== answered: "After any calls at all, take an accepted, valid command .. Then the first event accepted at or after the due time carries
@@ -143,14 +145,18 @@ InTimeIsHeardAfterAnyPast = (past : Past) → HeardFrom (afterPast past)
 -- ==== never-waits-longer: "a first data word with a gap above 570, or time passing the receive command by more than 750 without it, makes the message
 -- faulty" (02 b)
 
--- An event makes the message faulty: it is marked, no answer, no data stored; and no message is under way after it but one that the event itself begins.
+-- An event makes the message faulty: message error goes into the stored status, where the event itself does not write that anew; no answer, no data stored;
+-- and where it brings no own command no message is under way after it.
 pub record EndsFaulty (s : State) (e : Event) (receive transmit : List ℕ) : Type 0 where
   pub marks : marksFault s e transmit ≡ true
+  pub status : leavesStatus (s .setup .own) (event e receive transmit) ≡ true
+      → step s (event e receive transmit) .held .status .0 ≡ withFlag MessageError (s .held .status .0)
   pub silent : eventOf s e receive transmit .answer ≡ noAnswer
   pub table : eventReceive s e receive transmit ≡ receive
   pub over : bringsOwn s (event e receive transmit) ≡ false → step s (event e receive transmit) .message ≡ noMessage
 
--- never-waits-longer: of every terminal, and so after any past, whatever came between, on whichever bus: whoever is to send the data words
+-- never-waits-longer: of every terminal, and so after any past, whatever came between, on whichever bus; also where the controller sends the data words,
+-- which rule 2 ends sooner
 abbrev pub NeverWaitsLonger : Type 0
 NeverWaitsLonger =
     (s : State) (r : WordRecord) (receive transmit : List ℕ) (ks : List Call) → Waits s r receive transmit ks
@@ -164,6 +170,14 @@ abbrev pub WaitIsTold : Type 0
 WaitIsTold =
     (s : State) (r : WordRecord) (receive transmit : List ℕ) (ks : List Call) → Waits s r receive transmit ks
     → NotPast (r .time .0 + 751) (nextMomentOf (run (step s (event (Word r) receive transmit)) ks .message))
+
+-- wait-exactly: and which it is, by how far the message has come
+abbrev pub WaitExactly : Type 0
+WaitExactly =
+    (s : State) (r : WordRecord) (receive transmit : List ℕ) (ks : List Call) → Waits s r receive transmit ks
+    → nextMomentOf (run (step s (event (Word r) receive transmit)) ks .message)
+    ≡ momentWhile (run (step s (event (Word r) receive transmit)) ks .message .phase) (r .time .0)
+    (run (step s (event (Word r) receive transmit)) ks .message .last .0)
 
 -- ==== as-a-mark: "And an accepted record that is no valid command to it or to all terminals, on a bus where no message of its own is under way,
 -- acts exactly as a time mark of that moment."
@@ -182,7 +196,7 @@ AsAMark =
     → isUnderWayOn (s .message) (r .bus) ≡ false
     → SameAsMark s r receive transmit
 
--- as-a-mark-once-settled: none is, once what is due at that moment is settled and what is late is faulty
+-- as-a-mark-once-settled: none is, once what is due at that moment is settled and what is over its time is faulty
 abbrev pub AsAMarkOnceSettled : Type 0
 AsAMarkOnceSettled =
     (s : State) (r : WordRecord) (receive transmit : List ℕ) → isAccepted s (Word r) receive transmit ≡ true
@@ -221,6 +235,28 @@ MarksDoNotMatter = (s : State) → (isUnderWay (s .message .phase) ≡ true → 
 -- marks-do-not-matter-after-any-past
 abbrev pub MarksDoNotMatterAfterAnyPast : Type 0
 MarksDoNotMatterAfterAnyPast = (past : Past) → UnseenFrom (afterPast past)
+
+-- ==== moment-exactly: "The host may ask for the next moment at which time alone matters"
+
+-- A time mark does nothing but set the time of the last event.
+abbrev pub Passes : State → Moment → List ℕ → List ℕ → Type 0
+Passes s t receive transmit =
+    (eventOf s (Mark t) receive transmit
+    ≡ record { refusal = record { 0 = notRefused }; answer = noAnswer; cut = false; terminal = atTime s (t .0) })
+    × (eventReceive s (Mark t) receive transmit ≡ receive)
+
+-- It ends the message under way.
+abbrev pub EndsMessage : State → Moment → List ℕ → List ℕ → Type 0
+EndsMessage s t receive transmit =
+    (isUnderWay (s .message .phase) ≡ true) × (step s (event (Mark t) receive transmit) .message ≡ noMessage)
+
+-- moment-exactly: of every terminal: an accepted time mark does nothing where there is no next moment, or before it; at it or later it ends the message
+abbrev pub MomentExactly : Type 0
+MomentExactly =
+    (s : State) (t : Moment) (receive transmit : List ℕ) → isAccepted s (Mark t) receive transmit ≡ true
+    → (nextMomentOf (s .message) ≡ Never → Passes s t receive transmit)
+    × ((next : Moment) → nextMomentOf (s .message) ≡ At next
+    → (t .0 < next .0 → Passes s t receive transmit) × (next .0 ≤ t .0 → EndsMessage s t receive transmit))
 
 -- ==== spacing-kept: "The terminal keeps the kind of its last spacing fault (fresh: none) for the host to read" (02 i)
 
@@ -458,6 +494,8 @@ MarkNeeded = T (each isMarked marks) × T (none isMarked wipes) × T (reportsAt3
 abbrev pub ExchangeWitness : Type 0
 ExchangeWitness = ExchangeMet
 
--- exchange-needed: a message between terminals is answered, and for each premise one that breaks it is not
+-- exchange-needed: messages between terminals are answered, and for each premise one that breaks it is not; at 1751 each that waits is marked faulty, whatever
+-- event it is, and at 1750 none
 abbrev pub ExchangeNeeded : Type 0
-ExchangeNeeded = T (answersBy2420 heardAt1750) × T (none answersBy2420 notHeard)
+ExchangeNeeded =
+    T (each answersBy2420 (heardAt1600 ∷ heardAt1750 ∷ [])) × T (none answersBy2420 notHeard) × T (each isMarked (waits 1751)) × T (none isMarked (waits 1750))
