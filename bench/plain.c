@@ -1,4 +1,4 @@
-/* Document 01 in plain C, with request i of document 02. Sentences in quotation marks are theirs. */
+/* Document 01 in plain C, with requests b and i of document 02. Sentences in quotation marks are theirs. */
 #include "plain.h"
 
 #include <string.h>

@@ -66,8 +66,8 @@
  *     partner, T/R 1, subaddress 1 + draw(30), count of command; by draw(16): 0: T/R turns, 1: the lowest bit turns,
  *     2: subaddress = 0, else as it is; stage status; the call: P(time, bus, 0, word). Otherwise: left = left - 1, if
  *     it is 0 now stage full; the call: P(time, bus, 1, draw(65536)). In both, first = 0 and from = time.
- *   status: gap = 345 + draw(11) if one in 4, else STEP[draw(16)]; time = later(from + gap); word = partner * 2048 +
- *     draw(2048); if one in 16, bit 0800h of word turns; from = time; stage data; the call: P(time, bus, 0, word).
+ *   status: if one in 4, gap = 345 + draw(11), else gap = STEP[draw(16)]; time = later(from + gap); word = partner * 2048
+ *     + draw(2048); if one in 16, bit 0800h of word turns; from = time; stage data; the call: P(time, bus, 0, word).
  *   full: e = draw(8). 0: a mark at later(from + 259). 1 to 4: stage idle, a mark at later(from + 260). 5: stage idle,
  *     a mark at later(from + 260 + draw(400)). 6: time = later(from + STEP[draw(16)]), sync = draw(2), word =
  *     draw(65536), P(time, bus, sync, word). 7: as C.

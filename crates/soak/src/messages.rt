@@ -26,7 +26,7 @@ fn draw_gap(seed: &mut u64) -> u64 {
     }
 }
 
-// "gap = 345 + draw(11) if one in 4, else STEP[draw(16)]": the one so that the first data word comes near its limit
+// "if one in 4, gap = 345 + draw(11), else gap = STEP[draw(16)]": the first so that a first data word comes near its limit
 fn draw_wait(seed: &mut u64) -> u64 {
     if one_in(seed, 4) {
         return 345 + draw(seed, 11);

@@ -1,4 +1,4 @@
--- Rules 1 and 2 as the code goes about them: they change only the work, and what is settled is never late. Assumes nothing.
+-- Rules 1 and 2 as the code goes about them: they change only the work, and what is settled is never late nor overdue. Assumes nothing.
 use mathlib.Core.Path.{_≡_, refl, sym, ap, _∙_}
 use mathlib.Core.Bool.{Bool, true, false, cond}
 use mathlib.Core.List.{List}

@@ -46,7 +46,8 @@ isDue m t = isWhole m && leb (m .last .0 + dueDistance) t
 unfoldable pub isLate : Message → ℕ → Bool
 isLate m t = awaitsData m && ltb (m .last .0 + spacingMost) t
 
--- Between terminals the first data word is awaited: from the second command word on, before and after the status of the other terminal (02 b).
+-- Between terminals the first data word is awaited from the second command word on, before and after the status of the other terminal: no longer "for any
+-- length of time" (01), since 02 b.
 abbrev pub isBetween : Phase → Bool
 isBetween Idle = false
 isBetween First = false
@@ -54,10 +55,12 @@ isBetween (Pledged address) = true
 isBetween Confirmed = true
 isBetween Data = false
 
+-- What has all its words awaits none: so much is true of every state (DECISIONS 79).
 unfoldable pub awaitsFirst : Message → Bool
 awaitsFirst m = isBetween (m .phase) && not (isWhole m)
 
--- "the first data word must come within 57 .. microseconds of the parity bit of the receive command. We take 57.0": a gap of 570 (02 b)
+-- "the first data word must come within 57 .. microseconds of the parity bit of the receive command. We take 57.0": a gap of 570, 180 past the command's
+-- time (02 b). (003 A.3.9)
 abbrev pub firstWordDistance : ℕ
 firstWordDistance = 750
 

@@ -2,7 +2,7 @@
 ghost use mathlib.Core.Path.{_≡_};
 ghost use Rattle.terminal.specs.Settling.{isShut};
 ghost use Rattle.terminal.specs.States.{withService, withBusy, withSubsystem, withTerminalFault, withVectorWord, withBitWord, withHost, spacingIn};
-ghost use Rattle.terminal.specs.Events.{selftestCleared, restartedOf, lateMoment, overdueMoment, earlierOf, nextMomentOf};
+ghost use Rattle.terminal.specs.Events.{selftestCleared, restartedOf, earlierOf, nextMomentOf};
 use crate::states::Held;
 use crate::states::Message;
 use crate::states::Phase;

@@ -102,7 +102,7 @@ impl Message {
         }
     }
 
-    // Says whether it is awaited for too long.
+    // Says whether that word is awaited for too long.
     fn is_overdue(self, time: Moment) -> bool
         ensures answer { λ r. ⌜ r ≡ isOverdue self (time .0) ⌝ }
     {
@@ -110,7 +110,7 @@ impl Message {
         self.awaits_first() & (Terminal::FIRST_WORD_DISTANCE.0 < past.0)
     }
 
-    // Says whether the time of the message is over.
+    // Says whether the time of the message is over, by either limit.
     pub(crate) fn is_over(self, time: Moment) -> bool
         ensures answer { λ r. ⌜ r ≡ isOver self (time .0) ⌝ }
     {

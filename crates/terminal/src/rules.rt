@@ -98,7 +98,8 @@ impl Held {
 }
 
 impl Message {
-    // Gives the spacing fault of a message whose time is over: separated, and none where it was overdue before it was late (DECISIONS 78).
+    // Gives the spacing fault of a message whose time is over: separated, but none where the status of the other terminal came so late that the message was
+    // overdue before it was late (DECISIONS 78).
     fn time_fault(self) -> SpacingFault
         ensures fault { λ r. ⌜ r ≡ timeFault self ⌝ }
     {
@@ -128,6 +129,7 @@ impl Work {
         }
     }
 
+    // By either limit.
     fn rule2(self, own: Own, time: Moment) -> Work
         ensures work { λ r. ⌜ r ≡ workOf (rule2 (bareOf own self) (time .0)) ⌝ }
     {
