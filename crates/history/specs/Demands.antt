@@ -196,7 +196,7 @@ AsAMark =
     → isUnderWayOn (s .message) (r .bus) ≡ false
     → SameAsMark s r receive transmit
 
--- as-a-mark-once-settled: none is, once what is due at that moment is settled and what is over its time is faulty
+-- as-a-mark-once-settled: none is, once what is due at that moment is settled and what is late is faulty
 abbrev pub AsAMarkOnceSettled : Type 0
 AsAMarkOnceSettled =
     (s : State) (r : WordRecord) (receive transmit : List ℕ) → isAccepted s (Word r) receive transmit ≡ true
