@@ -8,13 +8,14 @@ use lib.ListN.{length, length-append}
 use borrow.Author.Tests.{ltb-true}
 use Rattle.words.specs.Words.{dueDistance, awaitedOf}
 use Rattle.terminal.specs.Messages.{isDue, isBetween, isOver}
+use Rattle.terminal.specs.Settling.{noAnswer}
 use Rattle.terminal.specs.Rules.{stagedOf}
 use Rattle.terminal.specs.Events.{timeOf}
 use Rattle.terminal.specs.declared.states.Message.{Message}
 use Rattle.terminal.specs.declared.states.Terminal.{Terminal as State}
 use Rattle.terminal.specs.declared.events.Event.{Event}
 use Rattle.terminal.proofs.Counts.{awaited-most}
-use Rattle.history.specs.Calls.{Call, setUp, event, host, clearSelftest, restart, isAccepted, step, run}
+use Rattle.history.specs.Calls.{Call, setUp, event, host, clearSelftest, restart, isAccepted, step, run, answerIn}
 use Rattle.history.specs.Courses.{isBefore, Course, over, between, word, Silent}
 use Rattle.history.proofs.Times.{event-time, spaced-most, ahead}
 use Rattle.history.proofs.Ways.{Way, Gathered, Calm, not-due, not-over, InTime, call-keeps, staged-gathered, word-moves, word-silent}
@@ -34,6 +35,13 @@ pub record Arrived (begun : State) (bus command end : ℕ) (words : List ℕ) (s
   pub way : Way begun message (run s ks)
   pub gathered : Gathered bus command end words message
   pub silent : Silent s ks
+
+-- a call that carries no answer may stand before
+pub behind : {begun : State} {bus command end : ℕ} {words : List ℕ} {s : State} {k : Call} {ks : List Call} → answerIn s k ≡ noAnswer
+    → Arrived begun bus command end words (step s k) ks
+    → Arrived begun bus command end words s (k ∷ ks)
+unfolding run
+behind quiet rest = record { message = rest .message; way = rest .way; gathered = rest .gathered; silent = (quiet, rest .silent) }
 
 in-time-between : {begun : State} {m : Message} {s : State} (way : Way begun m s) {bus command last end : ℕ} {words rest : List ℕ}
     (g : Gathered bus command last words m)
@@ -62,24 +70,19 @@ carry begun bus command words {m = m} way g direct all over =
     record { message = m; way = way; gathered = rw append-nil g; silent = tt }
 carry begun bus command {s} words {m = m} way g direct all (between {k = k} may before course) =
     let kept = call-keeps begun m s way bus (g .on) k may (in-time-between way g direct all k before course) in
-    let rest = carry begun bus command words (kept .0) g direct all course in
-    record { message = rest .message; way = rest .way; gathered = rest .gathered; silent = (kept .1, rest .silent) }
+    behind (kept .1) (carry begun bus command words (kept .0) g direct all course)
 carry begun bus command {s} words {m = m} way g direct all (word {last = last} {words = more} {r = r} {receive = receive} {transmit = transmit} next course) =
     let longer : length (words ++ (r .word ∷ [])) ≡ suc (length words) = simp length-append (omega arith) in
     let few : length words < 32 = omega (arith, awaited-most command) in
     let calm = spaced-most last (r .time .0) (next .spaced) in
     let in-time : (isDue m (r .time .0) ≡ false) × (isOver m (r .time .0) ≡ false) =
     (not-due g (r .word ∷ more) (r .time .0) all calm, not-over g direct (r .word ∷ more) (r .time .0) all calm) in
-    let rest =
-    carry begun bus command (words ++ (r .word ∷ []))
+    behind (word-silent begun way g r receive transmit next more all in-time)
+    (rw (append-assoc words (r .word ∷ []) more)
+    at
+    (carry begun bus command (words ++ (r .word ∷ []))
     (word-moves begun way g r receive transmit next more all in-time)
     (staged-gathered g r few)
     refl
     (omega arith)
-    course in
-    record {
-      message = rest .message;
-      way = rest .way;
-      gathered = rw (append-assoc words (r .word ∷ []) more) at (rest .gathered);
-      silent = (word-silent begun way g r receive transmit next more all in-time, rest .silent);
-    }
+    course))

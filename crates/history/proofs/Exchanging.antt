@@ -30,7 +30,7 @@ use Rattle.history.proofs.Steps.{stepped, not-earlier}
 use Rattle.history.proofs.Times.{event-time, time-grows, spaced-most}
 use Rattle.history.proofs.Phases.{not-due, over-at}
 use Rattle.history.proofs.Ways.{Way, Gathered, passes, InTime, call-keeps, still-answer, rules-data, staged-gathered, word-moves, word-silent}
-use Rattle.history.proofs.Carrying.{Arrived, carry}
+use Rattle.history.proofs.Carrying.{Arrived, behind, carry}
 use Rattle.history.proofs.Begun.{begun-way}
 use Rattle.history.proofs.Answered.{arrived-carried}
 use Rattle.history.proofs.Reached.{reachable}
@@ -143,6 +143,23 @@ module _ (begun : State) {m : Message} {s : State} (way : Way begun m s) (stage 
   moves p is =
       rw is (record { setup = way .setup; held = way .held; message = ap (λ (y : Message). movedOf y p x) (way .message); sending = way .sending })
 
+-- it has then come to another stage
+moved-come : {own : Own} {r : WordRecord} {before : Stage} {m : Message} → Come own r before m
+    → (stage : Stage) (x : WordRecord) → LastAt r stage (x .time .0)
+    → Other own stage
+    → Come own r stage (movedOf m (phaseAt stage) x)
+unfolding movedOf
+moved-come c stage x last other = record {
+  phase = refl;
+  last = last;
+  other = other;
+  on = c .on;
+  command = c .command;
+  start = c .start;
+  got = c .got;
+  room = c .room;
+}
+
 -- a command word to another address than ours and 31 is no own command
 another-foreign : (own : Own) (x : WordRecord) → eqb (addressOf (x .word)) (own .address) ≡ false → isBroadcast (x .word) ≡ false → isOwn own x ≡ false
 unfolding isOwn
@@ -167,17 +184,7 @@ module _ (begun : State) {m : Message} {s : State} (way : Way begun m s) {r : Wo
         ∙ rw is-second refl)
 
     second-come : Come (s .setup .own) r (pledged (addressOf (x .word))) (movedOf m (Pledged (addressOf (x .word))) x)
-    unfolding movedOf
-    second-come = record {
-      phase = refl;
-      last = tt;
-      other = (is .another, is .one);
-      on = c .on;
-      command = c .command;
-      start = c .start;
-      got = c .got;
-      room = c .room;
-    }
+    second-come = moved-come c (pledged (addressOf (x .word))) x tt (is .another, is .one)
 
   -- the status that it asked for
   module _ (address : ℕ) (c : Come (s .setup .own) r (pledged address) m) (x : WordRecord) (receive transmit : List ℕ)
@@ -195,17 +202,7 @@ module _ (begun : State) {m : Message} {s : State} (way : Way begun m s) {r : Wo
         ∙ rw (is .valid, is .sync, eq-eqb (addressOf (x .word)) address (is .from)) refl)
 
     status-come : Come (s .setup .own) r (confirmed (x .time .0)) (movedOf m Confirmed x)
-    unfolding movedOf
-    status-come = record {
-      phase = refl;
-      last = refl;
-      other = tt;
-      on = c .on;
-      command = c .command;
-      start = c .start;
-      got = c .got;
-      room = c .room;
-    }
+    status-come = moved-come c (confirmed (x .time .0)) x refl tt
 
 -- after the status its data words are gathered as those of any other
 come-gathered : {own : Own} {r : WordRecord} {last : ℕ} {m : Message} → Come own r (confirmed last) m → Gathered (r .bus) (r .word) last [] m
@@ -255,40 +252,33 @@ exchange : (begun : State) {r : WordRecord} {stage : Stage} {s : State} {m : Mes
 unfolding run stagedOf
 exchange begun {s = s} {m = m} way c all (between {k = k} may course) =
     let here = own-come way c in
-    let some = enough all course in
-    let kept = call-keeps begun m s way _ (here .on) k may (in-time-between way here some k course) in
-    let rest = exchange begun (kept .0) c all course in
-    record { message = rest .message; way = rest .way; gathered = rest .gathered; silent = (kept .1, rest .silent) }
-exchange begun {s = s} {m = m} way c all (second {x = x} {receive = receive} {transmit = transmit} is course) =
+    let kept = call-keeps begun m s way _ (here .on) k may (in-time-between way here (enough all course) k course) in
+    behind (kept .1) (exchange begun (kept .0) c all course)
+exchange begun {s = s} way c all (second {x = x} {receive = receive} {transmit = transmit} is course) =
     let here = own-come way c in
     let some = enough all course in
-    let rest = exchange begun (second-moves begun way some here x receive transmit is) (own-back way (second-come begun way some here x receive transmit is)) all course in
-    let quiet = still-answer s (Word x) receive transmit (is .accepted) (rw (way .message) (second-in-time begun way some here x receive transmit is .0)) in
-    record { message = rest .message; way = rest .way; gathered = rest .gathered; silent = (quiet, rest .silent) }
-exchange begun {r} {s = s} {m = m} way c all (status {address = address} {x = x} {receive = receive} {transmit = transmit} is course) =
+    let in-time = second-in-time begun way some here x receive transmit is in
+    behind (still-answer s (Word x) receive transmit (is .accepted) (rw (way .message) (in-time .0)))
+    (exchange begun (second-moves begun way some here x receive transmit is) (own-back way (second-come begun way some here x receive transmit is)) all course)
+exchange begun {r} {s = s} way c all (status {address = address} {x = x} {receive = receive} {transmit = transmit} is course) =
     let here = own-come way c in
     let some = enough all course in
     let limit : x .time .0 ≤ r .time .0 + 750 = omega (arith, event-time s (Word x) receive transmit (is .accepted), ahead course .1) in
-    let rest = exchange begun (status-moves begun way some address here x receive transmit is limit) (own-back way (status-come begun way some address here x receive transmit is limit)) all course in
-    let quiet = still-answer s (Word x) receive transmit (is .accepted) (rw (way .message) (status-in-time begun way some address here x receive transmit is limit .0)) in
-    record { message = rest .message; way = rest .way; gathered = rest .gathered; silent = (quiet, rest .silent) }
-exchange begun {r} {s = s} {m = m} way c all (first {last = last} {words = more} {x = x} {receive = receive} {transmit = transmit} next limit course) =
+    let in-time = status-in-time begun way some address here x receive transmit is limit in
+    behind (still-answer s (Word x) receive transmit (is .accepted) (rw (way .message) (in-time .0)))
+    (exchange begun (status-moves begun way some address here x receive transmit is limit)
+    (own-back way (status-come begun way some address here x receive transmit is limit)) all course)
+exchange begun {r} way c all (first {last = last} {words = more} {x = x} {receive = receive} {transmit = transmit} next limit course) =
     let g = come-gathered c in
     let some : 1 ≤ awaitedOf (r .word) = omega arith in
     let in-time = rests some (x .time .0) (confirmed last) c (spaced-most last (x .time .0) (next .spaced), omega (arith, limit)) in
-    let rest =
-    carry begun (r .bus) (r .word) (x .word ∷ [])
+    behind (word-silent begun way g x receive transmit next more (omega (arith, all)) in-time)
+    (carry begun (r .bus) (r .word) (x .word ∷ [])
     (word-moves begun way g x receive transmit next more (omega (arith, all)) in-time)
     (staged-gathered g x (omega arith))
     refl
     (omega arith)
-    course in
-    record {
-      message = rest .message;
-      way = rest .way;
-      gathered = rest .gathered;
-      silent = (word-silent begun way g x receive transmit next more (omega (arith, all)) in-time, rest .silent);
-    }
+    course)
 
 -- ---- the statement
 
