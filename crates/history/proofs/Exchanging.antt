@@ -6,7 +6,7 @@ use mathlib.Core.List.{List, [], _∷_}
 use native.Mathlib.Omega.{arith}
 use lib.Dec.{eqb}
 use lib.ListN.{length}
-use borrow.Author.Tests.{lt-leb, le-ltb, eq-eqb}
+use borrow.Author.Tests.{le-ltb, eq-eqb}
 use Rattle.words.specs.Words.{spacingMost, addressOf, isTransmit, isMode, isBroadcast, commandSync, awaitedOf}
 use Rattle.records.specs.declared.forms.WordRecord.{WordRecord}
 use Rattle.terminal.specs.States.{withMessage, atTime}
@@ -28,7 +28,7 @@ use Rattle.history.specs.Calls.{afterPast}
 use Rattle.history.proofs.Tests.{and-false}
 use Rattle.history.proofs.Steps.{stepped, not-earlier}
 use Rattle.history.proofs.Times.{event-time, time-grows, spaced-most}
-use Rattle.history.proofs.Phases.{not-due, over-at}
+use Rattle.history.proofs.Phases.{none-missing, not-due, over-at}
 use Rattle.history.proofs.Ways.{Way, Gathered, passes, InTime, call-keeps, still-answer, rules-data, staged-gathered, word-moves, word-silent}
 use Rattle.history.proofs.Carrying.{Arrived, behind, carry}
 use Rattle.history.proofs.Begun.{begun-way}
@@ -73,8 +73,7 @@ Within r (confirmed last) t = (t ≤ last + spacingMost) × (t ≤ r .time .0 + 
 
 module _ {own : Own} {r : WordRecord} {m : Message} (some : 1 ≤ awaitedOf (r .word)) (t : ℕ) where
   missing : {stage : Stage} → Come own r stage m → isWhole m ≡ false
-  unfolding isWhole
-  missing c = rw (c .command, c .got, lt-leb (awaitedOf (r .word)) 0 (omega (arith, some)), and-false (isCounting (m .phase)))
+  missing c = none-missing m (r .word) (c .command) some (c .got)
 
   not-over : (stage : Stage) → Come own r stage m → Within r stage t → isOver m t ≡ false
   not-over asked c within = over-at m (missing c) First t (c .phase) ∙ le-ltb (m .last .0 + 205) t (omega (arith, within, c .last))

@@ -13,7 +13,7 @@ use Rattle.words.specs.Words.{plusOf, isTransmit, awaitedOf}
 use Rattle.words.proofs.Sums.{plus-fits, plus-stays}
 use Rattle.records.specs.declared.forms.WordRecord.{WordRecord}
 use Rattle.terminal.specs.Commands.{isExempt}
-use Rattle.terminal.specs.Messages.{isUnderWay, isCounting, isWhole, isBetween, isOver}
+use Rattle.terminal.specs.Messages.{isUnderWay, isWhole, isBetween, isOver}
 use Rattle.terminal.specs.Rules.{rule1Receive, begunOf, stagedOf, movedOf}
 use Rattle.terminal.specs.Events.{timeOf, lateMoment, overdueMoment, earlierOf, awaitedMoment, nextMomentOf}
 use Rattle.terminal.specs.declared.states.Own.{Own}
@@ -31,7 +31,7 @@ use Rattle.history.specs.Exchanges.{Waits, NotPast, momentWhile}
 use Rattle.history.specs.Demands.{NeverWaitsLonger, WaitIsTold, WaitExactly}
 use Rattle.history.proofs.Tests.{true≢, false≢, cond-cases, and-false}
 use Rattle.history.proofs.Steps.{accepted-table, shown, record-on-clock}
-use Rattle.history.proofs.Phases.{overAt, over-at}
+use Rattle.history.proofs.Phases.{none-missing, overAt, over-at}
 use Rattle.history.proofs.Ways.{still-answer}
 use Rattle.history.proofs.Running.{run-holds}
 use Rattle.history.proofs.Idle.{event-idle}
@@ -93,8 +93,7 @@ receives-plain own word receives = rw (receives, and-false)
 
 module _ (r : WordRecord) (m : Message) (tracks : Tracks r m) (under : isUnderWay (m .phase) ≡ true) (none : m .got ≡ 0) (some : 1 ≤ awaitedOf (r .word)) where
   missing : isWhole m ≡ false
-  unfolding isWhole
-  missing = rw (tracks .asked, none, lt-leb (awaitedOf (r .word)) 0 (omega (arith, some))) (and-false (isCounting (m .phase)))
+  missing = none-missing m (r .word) (tracks .asked) some none
 
   -- its time is over more than 750 after its command
   first-over : (t : ℕ) → r .time .0 + 750 < t → isOver m t ≡ true

@@ -1,7 +1,8 @@
 -- Which messages are under way, and when the time of one is over, by its phase. Assumes nothing.
 use mathlib.Core.Path.{_≡_, refl, ap}
-use Prim.Native.Nat.{ℕ, _+_}
+use Prim.Native.Nat.{ℕ, _+_, _≤_}
 use mathlib.Core.Bool.{Bool, true, false, _||_}
+use native.Mathlib.Omega.{arith}
 use lib.Dec.{ltb, leb}
 use borrow.Author.Tests.{leb-false, ltb-true, lt-ltb, lt-leb}
 use Rattle.words.specs.Words.{awaitedOf}
@@ -10,7 +11,7 @@ use Rattle.terminal.specs.declared.states.Phase.{Phase}
 use Rattle.terminal.specs.declared.states.Phase.the-variants.{Idle, First, Pledged, Confirmed, Data}
 use Rattle.terminal.specs.declared.states.Message.{Message}
 use Rattle.history.specs.States.{isOpening}
-use Rattle.history.proofs.Tests.{and-left, and-right, or-cases}
+use Rattle.history.proofs.Tests.{and-left, and-right, and-false, or-cases}
 
 -- one that counts data words
 pub counting-under-way : (p : Phase) → isCounting p ≡ true → isUnderWay p ≡ true
@@ -40,6 +41,11 @@ awaits-missing m awaits =
     let counts : isCounting (m .phase) ≡ true = search (and-left, awaits) in
     let less : ltb (m .got) (awaitedOf (m .command .0)) ≡ true = search (and-right, awaits) in
     rw (counts, lt-leb (awaitedOf (m .command .0)) (m .got) (ltb-true (m .got) (awaitedOf (m .command .0)) less))
+
+-- nor is one without a data word whose command awaits some
+pub none-missing : (m : Message) (word : ℕ) → m .command .0 ≡ word → 1 ≤ awaitedOf word → m .got ≡ 0 → isWhole m ≡ false
+unfolding isWhole
+none-missing m word asked some none = rw (asked, none, lt-leb (awaitedOf word) 0 (omega (arith, some))) (and-false (isCounting (m .phase)))
 
 -- one that is due
 pub due-under-way : (m : Message) (t : ℕ) → isDue m t ≡ true → isUnderWay (m .phase) ≡ true
