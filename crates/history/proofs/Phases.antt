@@ -5,8 +5,8 @@ use mathlib.Core.Bool.{Bool, true, false, _||_}
 use native.Mathlib.Omega.{arith}
 use lib.Dec.{ltb, leb}
 use borrow.Author.Tests.{leb-false, ltb-true, lt-ltb, lt-leb}
-use Rattle.words.specs.Words.{awaitedOf}
-use Rattle.terminal.specs.Messages.{isUnderWay, isCounting, awaitsData, isWhole, isDue, isLate, isBetween, awaitsFirst, isOverdue, isOver}
+use Rattle.words.specs.Words.{spacingMost, awaitedOf}
+use Rattle.terminal.specs.Messages.{isUnderWay, isCounting, awaitsData, isWhole, isDue, isLate, isBetween, awaitsFirst, firstWordDistance, isOverdue, isOver}
 use Rattle.terminal.specs.declared.states.Phase.{Phase}
 use Rattle.terminal.specs.declared.states.Phase.the-variants.{Idle, First, Pledged, Confirmed, Data}
 use Rattle.terminal.specs.declared.states.Message.{Message}
@@ -70,10 +70,10 @@ over-under-way m t over =
 
 abbrev pub overAt : Phase → Message → ℕ → Bool
 overAt Idle m t = false
-overAt First m t = ltb (m .last .0 + 205) t
-overAt (Pledged address) m t = ltb (m .start .0 + 750) t
-overAt Confirmed m t = ltb (m .last .0 + 205) t || ltb (m .start .0 + 750) t
-overAt Data m t = ltb (m .last .0 + 205) t
+overAt First m t = ltb (m .last .0 + spacingMost) t
+overAt (Pledged address) m t = ltb (m .start .0 + firstWordDistance) t
+overAt Confirmed m t = ltb (m .last .0 + spacingMost) t || ltb (m .start .0 + firstWordDistance) t
+overAt Data m t = ltb (m .last .0 + spacingMost) t
 
 or-off : (b : Bool) → (b || false) ≡ b
 or-off true = refl
@@ -91,7 +91,7 @@ module _ (m : Message) (missing : isWhole m ≡ false) where
       let less : leb (awaitedOf (m .command .0)) (m .got) ≡ false = rw counts at missing in
       rw (counts, lt-ltb (m .got) (awaitedOf (m .command .0)) (leb-false (awaitedOf (m .command .0)) (m .got) less)) refl
 
-  late-at : (t : ℕ) → isCounting (m .phase) ≡ true → isLate m t ≡ ltb (m .last .0 + 205) t
+  late-at : (t : ℕ) → isCounting (m .phase) ≡ true → isLate m t ≡ ltb (m .last .0 + spacingMost) t
   unfolding isLate
   late-at t counts = rw (counts-awaits counts) refl
 
@@ -99,7 +99,7 @@ module _ (m : Message) (missing : isWhole m ≡ false) where
   unfolding isLate awaitsData
   uncounted t not = rw not refl
 
-  overdue-at : (t : ℕ) → isBetween (m .phase) ≡ true → isOverdue m t ≡ ltb (m .start .0 + 750) t
+  overdue-at : (t : ℕ) → isBetween (m .phase) ≡ true → isOverdue m t ≡ ltb (m .start .0 + firstWordDistance) t
   unfolding isOverdue awaitsFirst
   overdue-at t between = rw (between, missing) refl
 
@@ -109,7 +109,7 @@ module _ (m : Message) (missing : isWhole m ≡ false) where
 
   pub over-at : (p : Phase) (t : ℕ) → m .phase ≡ p → isOver m t ≡ overAt p m t
   over-at Idle t is = rw (uncounted t (ap isCounting is), direct t (ap isBetween is)) refl
-  over-at First t is = rw (late-at t (ap isCounting is), direct t (ap isBetween is)) (or-off (ltb (m .last .0 + 205) t))
+  over-at First t is = rw (late-at t (ap isCounting is), direct t (ap isBetween is)) (or-off (ltb (m .last .0 + spacingMost) t))
   over-at (Pledged address) t is = rw (uncounted t (ap isCounting is), overdue-at t (ap isBetween is)) refl
   over-at Confirmed t is = rw (late-at t (ap isCounting is), overdue-at t (ap isBetween is)) refl
-  over-at Data t is = rw (late-at t (ap isCounting is), direct t (ap isBetween is)) (or-off (ltb (m .last .0 + 205) t))
+  over-at Data t is = rw (late-at t (ap isCounting is), direct t (ap isBetween is)) (or-off (ltb (m .last .0 + spacingMost) t))
