@@ -67,6 +67,7 @@ typedef struct {
     uint16_t receive[PLAIN_TABLE], transmit[PLAIN_TABLE];
     plain_tables tables;
     uint64_t sum;
+    bool ask;
 } player;
 
 static void set_up(player *p, unsigned address)
@@ -76,15 +77,24 @@ static void set_up(player *p, unsigned address)
     plain_setup(&p->terminal, address, all, PLAIN_MASKS, all, PLAIN_MASKS);
 }
 
+static uint64_t turned(uint64_t sum) { return sum << 1 | sum >> 63; }
+
+static void add_next(player *p)
+{
+    uint64_t next = plain_next(&p->terminal);
+    p->sum = turned(p->sum) + (next == PLAIN_NONE ? 0 : next);
+}
+
 static void add_event(player *p, unsigned refused, const plain_result *result)
 {
-    uint64_t turned = p->sum << 1 | p->sum >> 63;
     if (refused) {
-        p->sum = turned + refused;
+        p->sum = turned(p->sum) + refused;
     } else if (result->answered) {
         uint64_t first = result->count ? result->words[0] : 0;
-        p->sum = turned + (result->due ^ first ^ (uint64_t)result->count << 32 ^ (uint64_t)result->status << 48);
+        p->sum = turned(p->sum) + (result->due ^ first ^ (uint64_t)result->count << 32 ^ (uint64_t)result->status << 48);
     }
+    if (p->ask)
+        add_next(p);
 }
 
 static void host_call(player *p, uint8_t kind, const plain_record *record)
@@ -114,9 +124,9 @@ static void play(player *p, uint8_t kind, const plain_record *record)
     }
 }
 
-uint64_t plain_course_play(const uint8_t *calls, size_t n)
+uint64_t plain_course_play(const uint8_t *calls, size_t n, bool ask)
 {
-    player p = {.sum = 0};
+    player p = {.ask = ask};
     plain_record record;
     p.tables = (plain_tables){p.receive, PLAIN_TABLE, p.transmit, PLAIN_TABLE};
     set_up(&p, 5);

@@ -105,8 +105,10 @@ static uint64_t ours_check(void) { return check_file(ours_file_check); }
 static uint64_t plain_check(void) { return check_file(plain_file_check); }
 static uint64_t ours_plans(void) { return judge_plans(ours_verdict); }
 static uint64_t plain_plans(void) { return judge_plans(plain_verdict); }
-static uint64_t ours_course(void) { return course_play(course, sizeof course); }
-static uint64_t plain_course(void) { return plain_course_play(course, sizeof course); }
+static uint64_t ours_course(void) { return course_play(course, sizeof course, false); }
+static uint64_t plain_course(void) { return plain_course_play(course, sizeof course, false); }
+static uint64_t ours_asked(void) { return course_play(course, sizeof course, true); }
+static uint64_t plain_asked(void) { return plain_course_play(course, sizeof course, true); }
 
 /* ---- the table */
 
@@ -123,6 +125,7 @@ static const Row rows[] = {
     {"file check", {ours_check, plain_check}, FILE_RECORDS},
     {"verdict", {ours_plans, plain_plans}, (double)PLAN_TURNS * PLANS},
     {"terminal event", {ours_course, plain_course}, CALLS},
+    {"event, asked", {ours_asked, plain_asked}, CALLS},
 };
 
 #define ROWS (sizeof rows / sizeof *rows)
@@ -196,5 +199,6 @@ int main(int count, char **arguments)
     printf("verdict: a plan of %d, seven in eight good, %.1f records at the mean\n", PLANS, mean);
     printf("terminal event: a call of a course of %d, %.1f %% of them events, refused ones too; reading the 16 bytes is in it on both sides\n",
            CALLS, 100.0 * (double)events / CALLS);
+    printf("event, asked: the same, and the host asks for the next moment after each event\n");
     return 0;
 }

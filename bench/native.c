@@ -1,5 +1,6 @@
 /* The terminal for this machine's own processor, built by bench/native: native times | copies. It times an event against plain C over the course of
- * figures.c, or says how many bytes a call copies, where the code was built to count them. */
+ * figures.c, without and with the host's question for the next moment after each event, or says how many bytes a call copies, where the code was
+ * built to count them. */
 #include "common.h"
 #include "course.h"
 
@@ -12,36 +13,52 @@
 static uint8_t course[COURSE_CALL * (size_t)CALLS];
 static uint64_t copied;
 
-/* course_play of course.h, for this processor. */
-uint64_t native_play(const uint8_t *calls, size_t n);
+typedef uint64_t Play(const uint8_t *calls, size_t n, bool ask);
+
+/* course_play of course.h, for this processor; and that of other sources, where bench/native was given some. */
+Play native_play;
+__attribute__((weak)) Play other_play;
 
 void native_copied(uint64_t bytes);
 void native_copied(uint64_t bytes) { copied += bytes; }
 
-static uint64_t play(int ours)
+/* ---- the sides, each timed without and with the question */
+
+enum { PLAIN, OURS, OTHER };
+
+static Play *const plays[] = {[PLAIN] = plain_course_play, [OURS] = native_play, [OTHER] = other_play};
+static const char *const names[] = {[PLAIN] = "plain C", [OURS] = "ours", [OTHER] = "the other sources"};
+static double best[3][2]; /* nanoseconds a call */
+
+/* A pass of each side, the one after the other in turn first; whether their sums are equal. */
+static int measure(unsigned sides, unsigned first, bool ask)
 {
-    return ours ? native_play(course, sizeof course) : plain_course_play(course, sizeof course);
+    uint64_t sums[3];
+    for (unsigned turn = 0; turn < sides; turn++) {
+        unsigned side = (first + turn) % sides;
+        double start = now();
+        sums[side] = plays[side](course, sizeof course, ask);
+        double took = (now() - start) / CALLS;
+        if (best[side][ask] == 0 || took < best[side][ask])
+            best[side][ask] = took;
+    }
+    for (unsigned side = 1; side < sides; side++)
+        if (sums[side] != sums[PLAIN])
+            return 0;
+    return 1;
 }
 
 static int print_times(void)
 {
-    double best[2] = {0, 0};
-    for (int round = 0; round < ROUNDS; round++) {
-        uint64_t sums[2];
-        for (int turn = 0; turn < 2; turn++) {
-            int ours = (round ^ turn) & 1;
-            double start = now();
-            sums[ours] = play(ours);
-            double took = (now() - start) / CALLS;
-            if (round == 0 || took < best[ours])
-                best[ours] = took;
-        }
-        if (sums[0] != sums[1]) {
+    unsigned sides = other_play ? 3 : 2;
+    for (unsigned round = 0; round < ROUNDS; round++)
+        if (!measure(sides, round % sides, false) || !measure(sides, round % sides, true)) {
             printf("ours and plain C differ\n");
             return 1;
         }
-    }
-    printf("%.2f ns, plain C %.2f ns, ratio %.2f\n", best[1], best[0], best[1] / best[0]);
+    for (unsigned side = 0; side < sides; side++)
+        printf("    %-18s%7.2f ns, ratio to plain C %.3f; with the question %7.2f ns, ratio %.3f, the question %.2f ns\n", names[side],
+               best[side][0], best[side][0] / best[PLAIN][0], best[side][1], best[side][1] / best[PLAIN][1], best[side][1] - best[side][0]);
     return 0;
 }
 
@@ -55,7 +72,7 @@ int main(int count, char **arguments)
     course_make(course, CALLS);
     if (times)
         return print_times();
-    play(1);
+    native_play(course, sizeof course, true);
     printf("%.1f bytes\n", (double)copied / CALLS);
     return 0;
 }

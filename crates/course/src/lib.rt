@@ -8,6 +8,7 @@ use std::num::wrapping_add_u64;
 use terminal::Answer;
 use terminal::Event;
 use terminal::Happened;
+use terminal::NextMoment;
 use terminal::Setup;
 use terminal::Terminal;
 use words::Moment;
@@ -29,9 +30,14 @@ fn first_of(words: [u16; 32]) -> u16 {
     words[0]
 }
 
+// Gives the sum turned left by one bit.
+fn turned(sum: u64) -> u64 {
+    (sum << 1) | (sum >> 63)
+}
+
 // Gives the sum with what an event gave: its refusal, or its answer.
 fn added(sum: u64, refusal: Refusal, answer: Answer) -> u64 {
-    let turned = (sum << 1) | (sum >> 63);
+    let turned = turned(sum);
     if refusal.0 != 0 {
         return wrapping_add_u64(turned, refusal.0 as u64);
     }
@@ -42,6 +48,18 @@ fn added(sum: u64, refusal: Refusal, answer: Answer) -> u64 {
     let first = first_of(words);
     let numbers = ((answer.status.0 as u64) << 48) ^ ((answer.count as u64) << 32) ^ (first as u64);
     wrapping_add_u64(turned, answer.due.0 ^ numbers)
+}
+
+// Gives the sum with the next moment, that of none being 0, where the host asks for it.
+fn asked(sum: u64, terminal: Terminal, ask: bool) -> u64 {
+    if !ask {
+        return sum;
+    }
+    let next = terminal.next_moment();
+    match next {
+        NextMoment::At(moment) => wrapping_add_u64(turned(sum), moment.0),
+        NextMoment::Never => turned(sum),
+    }
 }
 
 // As after an event that did nothing, on a terminal with every mask on.
@@ -108,7 +126,7 @@ fn event_of(kind: u8, heard: WordRecord) -> Event {
 
 // Plays the calls up to one whose record is refused, and gives the sum. The terminal stays in the event's result from call to call, which saves a
 // copy of it.
-fn play(calls: &[u8], receive: &mut [u16; 1024], transmit: &mut [u16; 1024]) -> u64 {
+fn play(calls: &[u8], ask: bool, receive: &mut [u16; 1024], transmit: &mut [u16; 1024]) -> u64 {
     let mut happened = start(5);
     let mut sum = 0;
     let mut at = 0;
@@ -122,7 +140,7 @@ fn play(calls: &[u8], receive: &mut [u16; 1024], transmit: &mut [u16; 1024]) -> 
         if (kind == RECORD) | (kind == MARK) {
             happened = terminal.event(event_of(kind, heard), receive, transmit);
             let answer = happened.answer;
-            sum = added(sum, happened.refusal, answer);
+            sum = asked(added(sum, happened.refusal, answer), happened.terminal, ask);
         } else if kind == SEND {
             send(heard, transmit);
         } else {
@@ -134,13 +152,13 @@ fn play(calls: &[u8], receive: &mut [u16; 1024], transmit: &mut [u16; 1024]) -> 
     sum
 }
 
-// Gives the sum of the course on a terminal of address 5 and tables of zeros.
+// Gives the sum of the course on a terminal of address 5 and tables of zeros; the host may ask for the next moment after each event.
 // Tables: calls is only read. Refusals: none.
 #[no_mangle]
-pub extern "C" fn course_play(calls: &[u8]) -> u64
+pub extern "C" fn course_play(calls: &[u8], ask: bool) -> u64
     ensures calls { λ _. ⌜ now (calls .exit) ≡ now (calls .entry) ⌝ }
 {
     let mut receive = [0u16; 1024];
     let mut transmit = [0u16; 1024];
-    play(calls, &mut receive, &mut transmit)
+    play(calls, ask, &mut receive, &mut transmit)
 }

@@ -6,10 +6,10 @@ use Rattle.course.proofs.play.Statement.{statement}
 use Rattle.course.proofs.play.Tie as tie
 
 abbrev Inv-loop : tie.InvT-loop
-Inv-loop calls receive₀ transmit₀ happened₀ sum₀ at₀ receive transmit happened sum at = Unit {0}
+Inv-loop calls ask receive₀ transmit₀ happened₀ sum₀ at₀ receive transmit happened sum at = Unit {0}
 
 abbrev μ-loop : tie.MeasureT-loop
-μ-loop calls receive₀ transmit₀ happened₀ sum₀ at₀ receive transmit happened sum at = length calls - at
+μ-loop calls ask receive₀ transmit₀ happened₀ sum₀ at₀ receive transmit happened sum at = length calls - at
 
 start-requires : tie.Need-start-requires Inv-loop μ-loop
 start-requires c κs = tt
@@ -53,6 +53,9 @@ event-requires c κs = tt
 added-requires : tie.Need-added-requires Inv-loop μ-loop
 added-requires c κs = tt
 
+asked-requires : tie.Need-asked-requires Inv-loop μ-loop
+asked-requires c κs = tt
+
 send-requires : tie.Need-send-requires Inv-loop μ-loop
 send-requires c κs = tt
 
@@ -91,6 +94,7 @@ play-spec =
     event-of-requires
     event-requires
     added-requires
+    asked-requires
     send-requires
     host-requires
     add-at
