@@ -13,16 +13,16 @@ use Rattle.words.specs.Words.{plusOf, isTransmit, awaitedOf}
 use Rattle.words.proofs.Sums.{plus-fits, plus-stays}
 use Rattle.records.specs.declared.forms.WordRecord.{WordRecord}
 use Rattle.terminal.specs.Commands.{isExempt}
-use Rattle.terminal.specs.Messages.{isUnderWay, isWhole, isBetween, isOver}
+use Rattle.terminal.specs.Messages.{isUnderWay, isWhole, isBetween, isOver, lateMoment, overdueMoment, earlierOf, awaitedMoment, nextMomentOf}
 use Rattle.terminal.specs.Rules.{rule1Receive, begunOf, stagedOf, movedOf}
-use Rattle.terminal.specs.Events.{timeOf, lateMoment, overdueMoment, earlierOf, awaitedMoment, nextMomentOf}
+use Rattle.terminal.specs.Events.{timeOf}
 use Rattle.terminal.specs.declared.states.Own.{Own}
 use Rattle.terminal.specs.declared.states.Phase.{Phase}
 use Rattle.terminal.specs.declared.states.Phase.the-variants.{Idle, First, Pledged, Confirmed, Data}
 use Rattle.terminal.specs.declared.states.Message.{Message}
 use Rattle.terminal.specs.declared.states.Terminal.{Terminal as State}
-use Rattle.terminal.specs.declared.hosts.NextMoment.{NextMoment}
-use Rattle.terminal.specs.declared.hosts.NextMoment.the-variants.{At}
+use Rattle.terminal.specs.declared.messages.NextMoment.{NextMoment}
+use Rattle.terminal.specs.declared.messages.NextMoment.the-variants.{At}
 use Rattle.terminal.specs.declared.events.Event.the-variants.{Word}
 use Rattle.terminal.proofs.Moments.{at-phase}
 use Rattle.history.specs.Calls.{Call, event, step, run}

@@ -12,15 +12,15 @@ use borrow.Author.Tests.{le-leb, lt-leb, le-ltb, ltb-true, lt-ltb}
 use Rattle.words.specs.Words.{dueDistance, plusOf}
 use Rattle.words.specs.declared.times.Moment.{Moment}
 use Rattle.words.proofs.Sums.{plus-fits, plus-stays}
-use Rattle.terminal.specs.Messages.{isWhole, isDue, isOver}
+use Rattle.terminal.specs.Messages.{isWhole, isDue, isOver, lateMoment, overdueMoment, earlierOf, awaitedMoment, nextMomentOf}
 use Rattle.terminal.specs.Rules.{rule1Answer, rule1Receive}
-use Rattle.terminal.specs.Events.{lateMoment, overdueMoment, earlierOf, awaitedMoment, nextMomentOf, happensOf}
+use Rattle.terminal.specs.Events.{happensOf}
 use Rattle.terminal.specs.declared.states.Phase.{Phase}
 use Rattle.terminal.specs.declared.states.Phase.the-variants.{Idle, First, Pledged, Confirmed, Data}
 use Rattle.terminal.specs.declared.states.Message.{Message}
 use Rattle.terminal.specs.declared.states.Terminal.{Terminal as State}
-use Rattle.terminal.specs.declared.hosts.NextMoment.{NextMoment}
-use Rattle.terminal.specs.declared.hosts.NextMoment.the-variants.{At, Never}
+use Rattle.terminal.specs.declared.messages.NextMoment.{NextMoment}
+use Rattle.terminal.specs.declared.messages.NextMoment.the-variants.{At, Never}
 use Rattle.terminal.specs.declared.events.Event.the-variants.{Mark}
 use Rattle.history.specs.Calls.{isAccepted}
 use Rattle.history.specs.Demands.{Passes, EndsMessage, MomentExactly}

@@ -19,16 +19,16 @@ use Rattle.words.specs.declared.statuses.Flag.the-variants.{MessageError}
 use Rattle.records.specs.declared.forms.WordRecord.{WordRecord}
 use Rattle.terminal.specs.States.{spacingIn, noMessage, noSending, freshOf, withHost, atTime}
 use Rattle.terminal.specs.Commands.{isOwn, isExempt}
-use Rattle.terminal.specs.Messages.{isUnderWay, isSending}
+use Rattle.terminal.specs.Messages.{isUnderWay, isSending, nextMomentOf}
 use Rattle.terminal.specs.Settling.{otherBus, settledStatus, firstPlace, replyOf, storesData, noAnswer}
 use Rattle.terminal.specs.Rules.{begunOf, rule3}
-use Rattle.terminal.specs.Events.{timeOf, setUpRefusal, nothingLegal, setUpOf, eventRefusal, passedOf, refusedOf, eventOf, eventReceive, nextMomentOf}
+use Rattle.terminal.specs.Events.{timeOf, setUpRefusal, nothingLegal, setUpOf, eventRefusal, passedOf, refusedOf, eventOf, eventReceive}
 use Rattle.terminal.specs.declared.states.SpacingFault.{SpacingFault}
 use Rattle.terminal.specs.declared.states.SpacingFault.the-variants.{None}
 use Rattle.terminal.specs.declared.states.Setup.{Setup}
 use Rattle.terminal.specs.declared.states.Terminal.{Terminal as State}
 use Rattle.terminal.specs.declared.answers.Answer.{Answer}
-use Rattle.terminal.specs.declared.hosts.NextMoment.the-variants.{At, Never}
+use Rattle.terminal.specs.declared.messages.NextMoment.the-variants.{At, Never}
 use Rattle.terminal.specs.declared.events.Event.{Event}
 use Rattle.terminal.specs.declared.events.Event.the-variants.{Mark, Word}
 use Rattle.terminal.specs.declared.events.Happened.{Happened}

@@ -17,8 +17,8 @@ use Rattle.terminal.specs.Cards.{mark, heard, command, dataWord, badWord, isAns
 use Rattle.terminal.specs.declared.states.Phase.{Phase}
 use Rattle.terminal.specs.declared.states.Phase.the-variants.{Idle, First, Pledged, Confirmed, Data}
 use Rattle.terminal.specs.declared.states.Terminal.{Terminal as State}
-use Rattle.terminal.specs.declared.hosts.NextMoment.{NextMoment}
-use Rattle.terminal.specs.declared.hosts.NextMoment.the-variants.{At, Never}
+use Rattle.terminal.specs.declared.messages.NextMoment.{NextMoment}
+use Rattle.terminal.specs.declared.messages.NextMoment.the-variants.{At, Never}
 use Rattle.terminal.specs.declared.events.Event.the-variants.{Word}
 use Rattle.history.specs.Calls.{Call, setUp, event, host, restart, busy, isAccepted, isSetUp, step, run}
 use Rattle.history.specs.Courses.{Command, NextWord, mayCome, Course, NoOwn}

@@ -8,12 +8,11 @@ use native.Mathlib.Decide.{decLe}
 use lib.Dec.{ltb, leb}
 use borrow.Author.Tests.{le-leb, lt-leb, le-ltb, lt-ltb}
 use Rattle.words.specs.Words.{awaitedOf}
-use Rattle.terminal.specs.Messages.{awaitsData, isWhole, awaitsFirst}
-use Rattle.terminal.specs.Events.{awaitedMoment, nextMomentOf}
+use Rattle.terminal.specs.Messages.{awaitsData, isWhole, awaitsFirst, awaitedMoment, nextMomentOf}
 use Rattle.terminal.specs.declared.states.Phase.{Phase}
 use Rattle.terminal.specs.declared.states.Phase.the-variants.{Idle, First, Pledged, Confirmed, Data}
 use Rattle.terminal.specs.declared.states.Message.{Message}
-use Rattle.terminal.specs.declared.hosts.NextMoment.{NextMoment}
+use Rattle.terminal.specs.declared.messages.NextMoment.{NextMoment}
 
 -- not at most is less
 not-most : (a b : ℕ) → ltb b a ≡ not (leb a b)

@@ -1,26 +1,20 @@
--- Document 01, "The terminal": set-up, an event whole with its refusals, host calls, next moment. Assumes nothing.
+-- Document 01, "The terminal": set-up, an event whole with its refusals, host calls. Assumes nothing.
 use Prim.Native.Nat.{ℕ}
 use mathlib.Core.Bool.{Bool, false, cond, _&&_}
 use mathlib.Core.List.{List}
 use lib.Dec.{eqb, leb}
 use lib.ListN.{length, replicate}
-use Rattle.words.specs.Words.{onClock, plusOf, dueDistance}
+use Rattle.words.specs.Words.{onClock}
 use Rattle.words.specs.Refusals.{notRefused, refusedTableSize, refusedOwnAddress, refusedOutOfRange, refusedOutOfOrder}
 use Rattle.records.specs.Records.{inRange}
 use Rattle.terminal.specs.States.{ownOf, setupOf, freshHeld, withSelftest, noMessage, noSending, freshOf, withHeld, withMessage, withSending, atTime}
-use Rattle.terminal.specs.Messages.{isWhole}
 use Rattle.terminal.specs.Settling.{noAnswer}
 use Rattle.terminal.specs.Rules.{rule1, rule1Answer, rule1Receive, rule2, rules3to6, cutsSending}
-use Rattle.terminal.specs.declared.states.Phase.{Phase}
-use Rattle.terminal.specs.declared.states.Phase.the-variants.{Idle, First, Pledged, Confirmed, Data}
-use Rattle.terminal.specs.declared.states.Message.{Message}
 use Rattle.terminal.specs.declared.states.Setup.{Setup}
 use Rattle.terminal.specs.declared.states.Terminal.{Terminal as State}
 use Rattle.terminal.specs.declared.events.Event.{Event}
 use Rattle.terminal.specs.declared.events.Event.the-variants.{Mark, Word}
 use Rattle.terminal.specs.declared.events.Happened.{Happened}
-use Rattle.terminal.specs.declared.hosts.NextMoment.{NextMoment}
-use Rattle.terminal.specs.declared.hosts.NextMoment.the-variants.{At, Never}
 use Rattle.terminal.specs.declared.setups.SetUp.{SetUp}
 
 -- ---- set-up
@@ -105,34 +99,3 @@ selftestCleared s = withHeld s (withSelftest (s .held) false)
 -- both."
 abbrev pub restartedOf : State → State
 restartedOf s = withSending (withMessage (withHeld s (freshHeld (s .setup .own))) noMessage) noSending
-
--- ---- next moment
-
--- "The host may ask for the next moment at which time alone matters: the due time, or last word plus 206 while a data word is awaited, or none."
--- It may lie past the clock (DECISIONS 5); a sum past 64 bits stays at their last number (DECISIONS 9).
-abbrev pub lateDistance : ℕ
-lateDistance = 206
-
--- "Until that word comes the next moment is at most the receive command plus 751." (02 b)
-abbrev pub overdueDistance : ℕ
-overdueDistance = 751
-
-abbrev pub lateMoment : Message → ℕ
-lateMoment m = plusOf (m .last .0) lateDistance
-
-abbrev pub overdueMoment : Message → ℕ
-overdueMoment m = plusOf (m .start .0) overdueDistance
-
-abbrev pub earlierOf : ℕ → ℕ → ℕ
-earlierOf a b = cond (leb a b) a b
-
--- while a word is awaited
-abbrev pub awaitedMoment : Phase → Message → NextMoment
-awaitedMoment Idle m = Never
-awaitedMoment First m = At (record { 0 = lateMoment m })
-awaitedMoment (Pledged address) m = At (record { 0 = overdueMoment m })
-awaitedMoment Confirmed m = At (record { 0 = earlierOf (lateMoment m) (overdueMoment m) })
-awaitedMoment Data m = At (record { 0 = lateMoment m })
-
-unfoldable pub nextMomentOf : Message → NextMoment
-nextMomentOf m = cond (isWhole m) (At (record { 0 = plusOf (m .last .0) dueDistance })) (awaitedMoment (m .phase) m)

@@ -1,8 +1,8 @@
--- Document 01, "The terminal": the message under way and the sending. Assumes nothing.
+-- Document 01, "The terminal": the message under way, the sending, and the next moment. Assumes nothing.
 use Prim.Native.Nat.{ℕ, _+_, _*_}
-use mathlib.Core.Bool.{Bool, true, false, not, _&&_, _||_}
+use mathlib.Core.Bool.{Bool, true, false, not, cond, _&&_, _||_}
 use lib.Dec.{eqb, ltb, leb}
-use Rattle.words.specs.Words.{dueDistance, spacingMost, wordTicks, addressOf, countOf, isTransmit, isMode, isBroadcast, isSpaced, commandSync, dataSync, awaitedOf}
+use Rattle.words.specs.Words.{plusOf, dueDistance, spacingMost, wordTicks, addressOf, countOf, isTransmit, isMode, isBroadcast, isSpaced, commandSync, dataSync, awaitedOf}
 use Rattle.records.specs.declared.forms.WordRecord.{WordRecord}
 use Rattle.terminal.specs.Commands.{isValidRecord}
 use Rattle.terminal.specs.declared.states.Own.{Own}
@@ -10,6 +10,8 @@ use Rattle.terminal.specs.declared.states.Phase.{Phase}
 use Rattle.terminal.specs.declared.states.Phase.the-variants.{Idle, First, Pledged, Confirmed, Data}
 use Rattle.terminal.specs.declared.states.Message.{Message}
 use Rattle.terminal.specs.declared.states.Sending.{Sending}
+use Rattle.terminal.specs.declared.messages.NextMoment.{NextMoment}
+use Rattle.terminal.specs.declared.messages.NextMoment.the-variants.{At, Never}
 
 -- A message is under way; it is, on that bus.
 abbrev pub isUnderWay : Phase → Bool
@@ -95,3 +97,34 @@ isSecond own m r =
 -- "Then a valid status from that address is awaited": no other bit is judged, and no distance but that of `isOverdue` (DECISIONS 6). (003 A.3.9)
 unfoldable pub isStatusFrom : ℕ → WordRecord → Bool
 isStatusFrom address r = isValidRecord r && eqb (r .sync) commandSync && eqb (addressOf (r .word)) address
+
+-- ---- next moment
+
+-- "The host may ask for the next moment at which time alone matters: the due time, or last word plus 206 while a data word is awaited, or none."
+-- It may lie past the clock (DECISIONS 5); a sum past 64 bits stays at their last number (DECISIONS 9).
+abbrev pub lateDistance : ℕ
+lateDistance = 206
+
+-- "Until that word comes the next moment is at most the receive command plus 751." (02 b)
+abbrev pub overdueDistance : ℕ
+overdueDistance = 751
+
+abbrev pub lateMoment : Message → ℕ
+lateMoment m = plusOf (m .last .0) lateDistance
+
+abbrev pub overdueMoment : Message → ℕ
+overdueMoment m = plusOf (m .start .0) overdueDistance
+
+abbrev pub earlierOf : ℕ → ℕ → ℕ
+earlierOf a b = cond (leb a b) a b
+
+-- while a word is awaited
+abbrev pub awaitedMoment : Phase → Message → NextMoment
+awaitedMoment Idle m = Never
+awaitedMoment First m = At (record { 0 = lateMoment m })
+awaitedMoment (Pledged address) m = At (record { 0 = overdueMoment m })
+awaitedMoment Confirmed m = At (record { 0 = earlierOf (lateMoment m) (overdueMoment m) })
+awaitedMoment Data m = At (record { 0 = lateMoment m })
+
+unfoldable pub nextMomentOf : Message → NextMoment
+nextMomentOf m = cond (isWhole m) (At (record { 0 = plusOf (m .last .0) dueDistance })) (awaitedMoment (m .phase) m)

@@ -2,39 +2,17 @@
 ghost use mathlib.Core.Path.{_≡_};
 ghost use Rattle.terminal.specs.Settling.{isShut};
 ghost use Rattle.terminal.specs.States.{withService, withBusy, withSubsystem, withTerminalFault, withVectorWord, withBitWord, withHost, spacingIn};
-ghost use Rattle.terminal.specs.Events.{selftestCleared, restartedOf, earlierOf, nextMomentOf};
+ghost use Rattle.terminal.specs.Messages.{nextMomentOf};
+ghost use Rattle.terminal.specs.Events.{selftestCleared, restartedOf};
+use crate::messages::NextMoment;
 use crate::states::Held;
 use crate::states::Message;
-use crate::states::Phase;
 use crate::states::Sending;
 use crate::states::SpacingFault;
 use crate::states::Terminal;
 use crate::tables::is_shut;
 use words::CommandWord;
-use words::Moment;
 use words::StatusWord;
-use words::Ticks;
-
-// "the next moment at which time alone matters: .., or none"
-pub enum NextMoment {
-    At(Moment),
-    Never,
-}
-
-// "last word plus 206 while a data word is awaited"
-const LATE_DISTANCE: Ticks = Ticks(206);
-// "Until that word comes the next moment is at most the receive command plus 751." (02 b)
-const OVERDUE_DISTANCE: Ticks = Ticks(751);
-
-// Gives the earlier of two moments.
-fn earlier(one: Moment, other: Moment) -> Moment
-    ensures moment { λ r. ⌜ r .0 ≡ earlierOf (one .0) (other .0) ⌝ }
-{
-    if one.0 <= other.0 {
-        return one;
-    }
-    other
-}
 
 impl Terminal {
     // Gives the terminal with the host's service request flag on or off.
@@ -191,18 +169,6 @@ impl Terminal {
         ensures next { λ r. ⌜ r ≡ nextMomentOf (self .message) ⌝ }
     {
         let message = self.message;
-        let phase = message.phase;
-        let late = message.last.plus(LATE_DISTANCE);
-        let overdue = message.start.plus(OVERDUE_DISTANCE);
-        if message.is_whole() {
-            return NextMoment::At(message.last.plus(Self::DUE_DISTANCE));
-        }
-        match phase {
-            Phase::Idle => NextMoment::Never,
-            Phase::First => NextMoment::At(late),
-            Phase::Pledged(_) => NextMoment::At(overdue),
-            Phase::Confirmed => NextMoment::At(earlier(late, overdue)),
-            Phase::Data => NextMoment::At(late),
-        }
+        message.next_moment()
     }
 }

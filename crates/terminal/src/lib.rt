@@ -14,7 +14,7 @@ mod tables;
 pub use answers::Answer;
 pub use events::Event;
 pub use events::Happened;
-pub use hosts::NextMoment;
+pub use messages::NextMoment;
 pub use setups::SetUp;
 pub use setups::set_up;
 pub use states::Held;

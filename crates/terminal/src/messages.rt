@@ -1,8 +1,8 @@
-// Tests of the message under way, of the sending, and of a record as the next word (01 The terminal). Meaning: specs/Messages.antt.
-// Refusals: none.
+// Tests of the message under way, of the sending, and of a record as the next word; and the next moment (01 The terminal). Meaning:
+// specs/Messages.antt. Refusals: none.
 ghost use mathlib.Core.Path.{_≡_};
 ghost use Rattle.words.specs.Words.{isSpaced};
-ghost use Rattle.terminal.specs.Messages.{isUnderWay, isOn, isCounting, awaitsData, isWhole, isDue, isLate, awaitsFirst, isOverdue, isOver, isSending, isNextData, isSecond, isStatusFrom};
+ghost use Rattle.terminal.specs.Messages.{isUnderWay, isOn, isCounting, awaitsData, isWhole, isDue, isLate, awaitsFirst, isOverdue, isOver, isSending, isNextData, isSecond, isStatusFrom, earlierOf, nextMomentOf};
 use crate::commands::is_valid_record;
 use crate::states::Message;
 use crate::states::Own;
@@ -165,5 +165,49 @@ impl Sending {
             & (self.bus == bus)
             & (self.from.0 <= time.0)
             & (past.0 < Ticks::WORD.0 * (self.words as u64))
+    }
+}
+
+// ---- the next moment
+
+// "the next moment at which time alone matters: .., or none"
+pub enum NextMoment {
+    At(Moment),
+    Never,
+}
+
+// "last word plus 206 while a data word is awaited"
+const LATE_DISTANCE: Ticks = Ticks(206);
+// "Until that word comes the next moment is at most the receive command plus 751." (02 b)
+const OVERDUE_DISTANCE: Ticks = Ticks(751);
+
+// Gives the earlier of two moments.
+fn earlier(one: Moment, other: Moment) -> Moment
+    ensures moment { λ r. ⌜ r .0 ≡ earlierOf (one .0) (other .0) ⌝ }
+{
+    if one.0 <= other.0 {
+        return one;
+    }
+    other
+}
+
+impl Message {
+    // Works out the next moment at which time alone matters to the message.
+    pub(crate) fn next_moment(self) -> NextMoment
+        ensures next { λ r. ⌜ r ≡ nextMomentOf self ⌝ }
+    {
+        let phase = self.phase;
+        let late = self.last.plus(LATE_DISTANCE);
+        let overdue = self.start.plus(OVERDUE_DISTANCE);
+        if self.is_whole() {
+            return NextMoment::At(self.last.plus(Terminal::DUE_DISTANCE));
+        }
+        match phase {
+            Phase::Idle => NextMoment::Never,
+            Phase::First => NextMoment::At(late),
+            Phase::Pledged(_) => NextMoment::At(overdue),
+            Phase::Confirmed => NextMoment::At(earlier(late, overdue)),
+            Phase::Data => NextMoment::At(late),
+        }
     }
 }

@@ -1,12 +1,12 @@
 -- By whether all words have come, or else by the phase. Assumes nothing.
 use mathlib.Core.Path.{refl, sym, _∙_}
-use Rattle.terminal.specs.Events.{nextMomentOf}
+use Rattle.terminal.specs.Messages.{nextMomentOf}
 use Rattle.terminal.specs.declared.states.Phase.the-variants.{Idle, First, Pledged, Confirmed, Data}
 use Rattle.terminal.proofs.Wrapped.{moment-is}
 use Rattle.terminal.proofs.Moments.{at-phase}
 use borrow.Author.Needs.{needs}
-use Rattle.terminal.proofs.states.Terminal.next_moment.Statement.{statement}
-use Rattle.terminal.proofs.states.Terminal.next_moment.Tie as tie
+use Rattle.terminal.proofs.states.Message.next_moment.Statement.{statement}
+use Rattle.terminal.proofs.states.Message.next_moment.Tie as tie
 
 plus-requires : tie.Need-plus-requires
 plus-requires c κs = search needs

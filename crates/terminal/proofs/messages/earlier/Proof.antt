@@ -1,7 +1,7 @@
 -- By which is the earlier. Assumes nothing.
 use borrow.Author.Tests.{le-leb, lt-leb}
-use Rattle.terminal.proofs.hosts.earlier.Statement.{statement}
-use Rattle.terminal.proofs.hosts.earlier.Tie as tie
+use Rattle.terminal.proofs.messages.earlier.Statement.{statement}
+use Rattle.terminal.proofs.messages.earlier.Tie as tie
 
 returns : tie.Need-returns
 returns c = let a = c .before .before .before .args in rw (le-leb (a .one .0) (a .other .0) (c .if1 .taken))
