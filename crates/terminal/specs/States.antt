@@ -1,13 +1,14 @@
 -- Document 01, "The terminal": the state, and what fresh means. A set-up, what the host sets, what is held, a message and a state are written out
 -- whole here and nowhere else; all others say what they change of one. Assumes nothing.
 use Prim.Native.Nat.{ℕ, _+_}
-use mathlib.Core.Bool.{Bool, false, cond}
+use mathlib.Core.Bool.{Bool, true, false, cond}
 use mathlib.Core.List.{List, [], _∷_}
 use lib.ListN.{set, replicate}
 use Rattle.words.specs.Words.{statusOf}
 use Rattle.words.specs.declared.commands.CommandWord.{CommandWord}
 use Rattle.words.specs.declared.statuses.StatusWord.{StatusWord}
 use Rattle.words.specs.declared.times.Moment.{Moment}
+use Rattle.terminal.specs.Messages.{nextMomentOf}
 use Rattle.terminal.specs.declared.states.Own.{Own}
 use Rattle.terminal.specs.declared.states.Setup.{Setup}
 use Rattle.terminal.specs.declared.states.Host.{Host}
@@ -19,6 +20,8 @@ use Rattle.terminal.specs.declared.states.Phase.the-variants.{Idle}
 use Rattle.terminal.specs.declared.states.Message.{Message}
 use Rattle.terminal.specs.declared.states.Sending.{Sending}
 use Rattle.terminal.specs.declared.states.Terminal.{Terminal}
+use Rattle.terminal.specs.declared.messages.NextMoment.{NextMoment}
+use Rattle.terminal.specs.declared.messages.NextMoment.the-variants.{At, Never}
 
 -- ---- what set-up gives
 
@@ -127,29 +130,58 @@ withWord m word = messageOf (m .phase) (m .bus) (m .command) (m .start) (m .last
 abbrev pub noSending : Sending
 noSending = record { from = record { 0 = 0 }; words = 0; bus = 0; on = false }
 
+-- ---- the next moment as it is kept: the moment, 0 where there is none, and whether there is one (02 e; DECISIONS 80)
+
+abbrev pub keptMoment : NextMoment → Moment
+keptMoment (At moment) = moment
+keptMoment Never = record { 0 = 0 }
+
+abbrev pub isTimed : NextMoment → Bool
+isTimed (At moment) = true
+isTimed Never = false
+
 -- ---- a state
 
-abbrev pub stateOf : Setup → Host → Held → Message → Sending → ℕ → Terminal
-stateOf setup host held message sending time =
-    record { message = message; sending = sending; time = record { 0 = time }; setup = setup; host = host; held = held }
+abbrev pub stateOf : Setup → Host → Held → Message → Sending → ℕ → Moment → Bool → Terminal
+stateOf setup host held message sending time next timed = record {
+  message = message;
+  sending = sending;
+  time = record { 0 = time };
+  next = next;
+  setup = setup;
+  host = host;
+  held = held;
+  timed = timed;
+}
 
--- "Fresh: .., no message, no sending but that of code 8's own answer. Set-up gives it with host flags off, vector and BIT words 0, last time 0."
+-- "Fresh: .., no message, no sending but that of code 8's own answer. Set-up gives it with host flags off, vector and BIT words 0, last time 0." With no
+-- message there is no next moment (02 e).
 abbrev pub freshOf : Setup → Terminal
-freshOf setup = stateOf setup freshHost (freshHeld (setup .own)) noMessage noSending 0
+freshOf setup = stateOf setup freshHost (freshHeld (setup .own)) noMessage noSending 0 (record { 0 = 0 }) false
 
 -- "Host calls set the flags (service request, busy, subsystem, terminal fault), vector and BIT words, .."
 abbrev pub withHost : Terminal → Host → Terminal
-withHost s host = stateOf (s .setup) host (s .held) (s .message) (s .sending) (s .time .0)
+withHost s host = stateOf (s .setup) host (s .held) (s .message) (s .sending) (s .time .0) (s .next) (s .timed)
 
 abbrev pub withHeld : Terminal → Held → Terminal
-withHeld s held = stateOf (s .setup) (s .host) held (s .message) (s .sending) (s .time .0)
+withHeld s held = stateOf (s .setup) (s .host) held (s .message) (s .sending) (s .time .0) (s .next) (s .timed)
 
+abbrev pub withNext : Terminal → Moment → Bool → Terminal
+withNext s next timed = stateOf (s .setup) (s .host) (s .held) (s .message) (s .sending) (s .time .0) next timed
+
+-- "Store it in the terminal's state and have every event, host call, restart and refusal leave it equal to what document 01 would work out." (02 e): it is
+-- set with the message, here and nowhere else, and what leaves the message leaves it.
 abbrev pub withMessage : Terminal → Message → Terminal
-withMessage s message = stateOf (s .setup) (s .host) (s .held) message (s .sending) (s .time .0)
+withMessage s message =
+    stateOf (s .setup) (s .host) (s .held) message (s .sending) (s .time .0) (keptMoment (nextMomentOf message)) (isTimed (nextMomentOf message))
 
 abbrev pub withSending : Terminal → Sending → Terminal
-withSending s sending = stateOf (s .setup) (s .host) (s .held) (s .message) sending (s .time .0)
+withSending s sending = stateOf (s .setup) (s .host) (s .held) (s .message) sending (s .time .0) (s .next) (s .timed)
 
 -- The state at a time.
 abbrev pub atTime : Terminal → ℕ → Terminal
-atTime s t = stateOf (s .setup) (s .host) (s .held) (s .message) (s .sending) t
+atTime s t = stateOf (s .setup) (s .host) (s .held) (s .message) (s .sending) t (s .next) (s .timed)
+
+-- "The host may ask for the next moment": what is kept.
+unfoldable pub momentIn : Terminal → NextMoment
+momentIn s = cond (s .timed) (At (s .next)) Never

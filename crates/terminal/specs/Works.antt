@@ -7,15 +7,17 @@ use lib.Dec.{leb}
 use lib.ListN.{getD, replicate}
 use Rattle.words.specs.Words.{addressOf, awaitedOf}
 use Rattle.records.specs.declared.forms.WordRecord.{WordRecord}
-use Rattle.terminal.specs.States.{setupOf, freshOf, withHeld, withMessage, withSending}
+use Rattle.terminal.specs.States.{setupOf, keptMoment, isTimed, freshOf, withHeld, withNext, withMessage, withSending}
 use Rattle.terminal.specs.Commands.{isOwn}
-use Rattle.terminal.specs.Messages.{isOn, awaitsData, isSending, isNextData, isSecond, isStatusFrom}
+use Rattle.terminal.specs.Messages.{isOn, awaitsData, isSending, isNextData, isSecond, isStatusFrom, nextMomentOf}
 use Rattle.terminal.specs.Settling.{otherBus}
 use Rattle.terminal.specs.Rules.{faultyOf, rule4, stagedOf, movedOf, faultIn}
 use Rattle.terminal.specs.declared.states.Own.{Own}
 use Rattle.terminal.specs.declared.states.Phase.{Phase}
 use Rattle.terminal.specs.declared.states.Phase.the-variants.{Idle, First, Pledged, Confirmed, Data}
+use Rattle.terminal.specs.declared.states.Held.{Held}
 use Rattle.terminal.specs.declared.states.Message.{Message}
+use Rattle.terminal.specs.declared.states.Sending.{Sending}
 use Rattle.terminal.specs.declared.states.Work.{Work}
 use Rattle.terminal.specs.declared.states.Terminal.{Terminal as State}
 use Rattle.terminal.specs.declared.rules.Meaning.{Meaning}
@@ -26,15 +28,24 @@ use Rattle.terminal.specs.declared.events.Told.{Told}
 
 -- ---- what the rules change
 
--- The work of a state; the state with other work; the work with another message.
+-- The work of a state; the state with other work; the work of a message, with its next moment; the work with another message.
 abbrev pub workOf : State → Work
-workOf s = record { message = s .message; sending = s .sending; held = s .held }
+workOf s = record { message = s .message; sending = s .sending; next = s .next; held = s .held; timed = s .timed }
 
 abbrev pub withWork : State → Work → State
-withWork s w = withSending (withMessage (withHeld s (w .held)) (w .message)) (w .sending)
+withWork s w = withNext (withSending (withMessage (withHeld s (w .held)) (w .message)) (w .sending)) (w .next) (w .timed)
+
+abbrev pub builtOf : Message → Sending → Held → Work
+builtOf message sending held = record {
+  message = message;
+  sending = sending;
+  next = keptMoment (nextMomentOf message);
+  held = held;
+  timed = isTimed (nextMomentOf message);
+}
 
 abbrev pub messageIn : Work → Message → Work
-messageIn w message = record { message = message; sending = w .sending; held = w .held }
+messageIn w message = builtOf message (w .sending) (w .held)
 
 -- A state with that `Own` and that work. Rules 2 to 6 read nothing else of it.
 abbrev pub bareOf : Own → Work → State

@@ -248,11 +248,7 @@ impl Terminal {
         let held = self.held_after(status, legal);
         let message = Message::none();
         let answer = self.answer(status, reply);
-        let work = Work {
-            message,
-            sending,
-            held,
-        };
+        let work = Work::build(message, sending, held);
         Passed { work, answer }
     }
 }

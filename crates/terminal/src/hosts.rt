@@ -1,8 +1,7 @@
 // Host calls, host reads and the next moment (01 The terminal). Meaning: specs/Events.antt, specs/States.antt. Refusals: none.
 ghost use mathlib.Core.Path.{_≡_};
 ghost use Rattle.terminal.specs.Settling.{isShut};
-ghost use Rattle.terminal.specs.States.{withService, withBusy, withSubsystem, withTerminalFault, withVectorWord, withBitWord, withHost, spacingIn};
-ghost use Rattle.terminal.specs.Messages.{nextMomentOf};
+ghost use Rattle.terminal.specs.States.{withService, withBusy, withSubsystem, withTerminalFault, withVectorWord, withBitWord, withHost, spacingIn, momentIn};
 ghost use Rattle.terminal.specs.Events.{selftestCleared, restartedOf};
 use crate::messages::NextMoment;
 use crate::states::Held;
@@ -10,6 +9,7 @@ use crate::states::Message;
 use crate::states::Sending;
 use crate::states::SpacingFault;
 use crate::states::Terminal;
+use crate::states::Work;
 use crate::tables::is_shut;
 use words::CommandWord;
 use words::StatusWord;
@@ -91,13 +91,7 @@ impl Terminal {
         ensures terminal { λ r. ⌜ r ≡ restartedOf self ⌝ }
     {
         let held = Held::fresh(self.setup.own);
-        let message = Message::none();
-        let sending = Sending::none();
-        let mut next = self;
-        next.held = held;
-        next.message = message;
-        next.sending = sending;
-        next
+        self.with_work(Work::build(Message::none(), Sending::none(), held))
     }
 
     // Gives the stored status.
@@ -166,9 +160,12 @@ impl Terminal {
     // Gives the next moment at which time alone matters. It may differ after every event that is not refused and after a restart.
     // Tables: none. Refusals: none.
     pub fn next_moment(self) -> NextMoment
-        ensures next { λ r. ⌜ r ≡ nextMomentOf (self .message) ⌝ }
+        ensures next { λ r. ⌜ r ≡ momentIn self ⌝ }
     {
-        let message = self.message;
-        message.next_moment()
+        let moment = self.next;
+        if self.timed {
+            return NextMoment::At(moment);
+        }
+        NextMoment::Never
     }
 }

@@ -122,11 +122,7 @@ impl Work {
         let held = marked.kept(fault);
         let message = Message::none();
         let sending = self.sending;
-        Work {
-            message,
-            sending,
-            held,
-        }
+        Work::build(message, sending, held)
     }
 
     // By either limit.
@@ -230,11 +226,7 @@ impl Work {
         let held = self.held.noted(own, CommandWord(heard.word));
         let message = Message::begun(heard);
         let sending = Sending::none();
-        Work {
-            message,
-            sending,
-            held,
-        }
+        Work::build(message, sending, held)
     }
 
     // Says whether a record with that meaning cuts a sending on the other bus.

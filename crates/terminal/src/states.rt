@@ -7,7 +7,8 @@ ghost use Prim.Native.Nat.{_<_};
 ghost use Rattle.words.specs.Words.{dueDistance, spacingLeast, spacingMost};
 ghost use Rattle.terminal.specs.Messages.{firstWordDistance};
 ghost use Rattle.terminal.specs.States.{ownOf, setupOf, freshHost, freshHeld, withStatus, withCommand, withSyncWord, withSelftest, withInhibit, withShut, withSpacing, messageOf, noMessage, atPhase, withWord, noSending, freshOf};
-ghost use Rattle.terminal.specs.Works.{workOf, messageIn, withWork};
+ghost use Rattle.terminal.specs.Works.{workOf, builtOf, messageIn, withWork};
+use crate::messages::NextMoment;
 use crate::tables::BUSES;
 use crate::tables::with_word;
 use words::CommandWord;
@@ -98,16 +99,20 @@ pub struct Terminal {
     pub message: Message,
     pub sending: Sending,
     pub time: Moment,
+    pub next: Moment,
     pub setup: Setup,
     pub host: Host,
     pub held: Held,
+    pub timed: bool,
 }
 
 // What the rules change of it: an event hands on this alone, and not the masks with it.
 pub struct Work {
     pub message: Message,
     pub sending: Sending,
+    pub next: Moment,
     pub held: Held,
+    pub timed: bool,
 }
 
 impl Setup {
@@ -314,13 +319,36 @@ impl Sending {
 }
 
 impl Work {
+    // The work of a message, with its next moment.
+    pub(crate) fn build(message: Message, sending: Sending, held: Held) -> Work
+        ensures work { λ r. ⌜ r ≡ builtOf message sending held ⌝ }
+    {
+        let moment = message.next_moment();
+        match moment {
+            NextMoment::At(next) => Work {
+                message,
+                sending,
+                next,
+                held,
+                timed: true,
+            },
+            NextMoment::Never => Work {
+                message,
+                sending,
+                next: Moment(0),
+                held,
+                timed: false,
+            },
+        }
+    }
+
     // The work with another message.
     pub(crate) fn with_message(self, message: Message) -> Work
         ensures work { λ r. ⌜ r ≡ messageIn self message ⌝ }
     {
-        let mut next = self;
-        next.message = message;
-        next
+        let sending = self.sending;
+        let held = self.held;
+        Work::build(message, sending, held)
     }
 }
 
@@ -359,9 +387,11 @@ impl Terminal {
             message,
             sending,
             time: Moment(0),
+            next: Moment(0),
             setup,
             host,
             held,
+            timed: false,
         }
     }
 
@@ -371,11 +401,14 @@ impl Terminal {
     {
         let message = self.message;
         let sending = self.sending;
+        let next = self.next;
         let held = self.held;
         Work {
             message,
             sending,
+            next,
             held,
+            timed: self.timed,
         }
     }
 
@@ -385,11 +418,14 @@ impl Terminal {
     {
         let message = work.message;
         let sending = work.sending;
+        let moment = work.next;
         let held = work.held;
         let mut next = self;
         next.message = message;
         next.sending = sending;
+        next.next = moment;
         next.held = held;
+        next.timed = work.timed;
         next
     }
 }

@@ -1,4 +1,4 @@
--- Each part fresh. Assumes nothing.
+-- Fresh work. Assumes nothing.
 use borrow.Author.Needs.{needs}
 use Rattle.terminal.proofs.states.Terminal.restart.Statement.{statement}
 use Rattle.terminal.proofs.states.Terminal.restart.Tie as tie
@@ -12,8 +12,15 @@ none-requires c κs = search needs
 none-requires-2 : tie.Need-none-requires-2
 none-requires-2 c κs = search needs
 
+build-requires : tie.Need-build-requires
+build-requires c κs = search needs
+
+with-work-requires : tie.Need-with-work-requires
+with-work-requires c κs = search needs
+
 returns : tie.Need-returns
-returns c = rw (c .none2 .ensures, c .before .none .ensures, c .before .before .fresh .ensures)
+returns c =
+    rw (c .with-work .ensures, c .before .build .ensures, c .before .before .none2 .ensures, c .before .before .before .none .ensures, c .before .before .before .before .fresh .ensures)
 
 pub restart-spec : {M : Type 1} → statement M
-restart-spec = tie.close (tie.spec fresh-requires none-requires none-requires-2 returns)
+restart-spec = tie.close (tie.spec fresh-requires none-requires none-requires-2 build-requires with-work-requires returns)

@@ -35,16 +35,23 @@ none-requires c κs = search needs
 answer-requires : tie.Need-answer-requires
 answer-requires c κs = c .before .before .before .before .before .before .before .before .before .before .before .before .before .before .pre .2
 
+build-requires : tie.Need-build-requires
+build-requires c κs = search needs
+
 same-length : tie.Need-same-length
 same-length c = search needs
 
 returns : tie.Need-returns
 unfolding settledOf
 returns c =
-    let status = c .before .before .before .before .before .before .before .before .before .settled-status .ensures in
-    let reply = c .before .before .before .before .before .before .before .before .reply .ensures in (
-      rw (c .answer .ensures, status, reply),
-      (rw (c .before .before .held-after .ensures, c .before .none .ensures, c .before .before .before .sending .ensures, status, reply), c .before .before .before .before .before .before .store-data .ensures),
+    let b = c .before in
+    let status = b .before .before .before .before .before .before .before .before .before .settled-status .ensures in
+    let reply = b .before .before .before .before .before .before .before .before .reply .ensures in (
+      rw (b .answer .ensures, status, reply),
+      (
+        rw (c .build .ensures, b .before .before .held-after .ensures, b .before .none .ensures, b .before .before .before .sending .ensures, status, reply),
+        b .before .before .before .before .before .before .store-data .ensures,
+      ),
     )
 
 pub settle-spec : {M : Type 1} → statement M
@@ -59,5 +66,6 @@ settle-spec =
     held-after-requires
     none-requires
     answer-requires
+    build-requires
     same-length
     returns)

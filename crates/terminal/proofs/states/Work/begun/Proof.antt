@@ -13,9 +13,12 @@ begun-requires c κs = search needs
 none-requires : tie.Need-none-requires
 none-requires c κs = search needs
 
+build-requires : tie.Need-build-requires
+build-requires c κs = search needs
+
 returns : tie.Need-returns
 unfolding rule4
-returns c = rw (c .none .ensures, c .before .begun .ensures, c .before .before .noted .ensures)
+returns c = rw (c .build .ensures, c .before .none .ensures, c .before .before .begun .ensures, c .before .before .before .noted .ensures)
 
 pub begun-spec : {M : Type 1} → statement M
-begun-spec = tie.close (tie.spec noted-requires begun-requires none-requires returns)
+begun-spec = tie.close (tie.spec noted-requires begun-requires none-requires build-requires returns)

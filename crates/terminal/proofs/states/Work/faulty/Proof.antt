@@ -13,9 +13,13 @@ kept-requires c κs = search needs
 none-requires : tie.Need-none-requires
 none-requires c κs = search needs
 
+build-requires : tie.Need-build-requires
+build-requires c κs = search needs
+
 returns : tie.Need-returns
 unfolding faultyOf
-returns c = rw (c .before .none .ensures, c .before .before .kept .ensures, c .before .before .before .marked .ensures)
+returns c =
+    rw (c .build .ensures, c .before .before .none .ensures, c .before .before .before .kept .ensures, c .before .before .before .before .marked .ensures)
 
 pub faulty-spec : {M : Type 1} → statement M
-faulty-spec = tie.close (tie.spec marked-requires kept-requires none-requires returns)
+faulty-spec = tie.close (tie.spec marked-requires kept-requires none-requires build-requires returns)
