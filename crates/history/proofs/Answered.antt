@@ -43,12 +43,12 @@ module _ (s begun : State) (setup : s .setup ≡ begun .setup) (held : withSelft
 
   settled-same : (w : ℕ) → settledStatus s w ≡ settledStatus (withHost begun (s .host)) w
   unfolding settledStatus
-  settled-same w = same-read (λ a h. settledStatus (stateOf a (s .host) h (s .message) (s .sending) (s .time .0)) w)
+  settled-same w = same-read (λ a h. settledStatus (stateOf a (s .host) h (s .message) (s .sending) (s .time .0) (s .next) (s .timed)) w)
 
   reply-same : (w : ℕ) (transmit : List ℕ) → replyOf s w transmit ≡ replyOf (withHost begun (s .host)) w transmit
   unfolding replyOf legalReply modeWords
   reply-same w transmit =
-      same-read (λ a h. replyOf (stateOf a (s .host) h (s .message) (s .sending) (s .time .0)) w transmit)
+      same-read (λ a h. replyOf (stateOf a (s .host) h (s .message) (s .sending) (s .time .0) (s .next) (s .timed)) w transmit)
 
   stores-same : (w : ℕ) → storesData s w ≡ storesData (withHost begun (s .host)) w
   unfolding storesData

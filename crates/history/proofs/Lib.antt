@@ -26,7 +26,8 @@ pub mod Polling
 pub mod Spacings
 pub mod Pasts
 pub mod Replacing
-pub mod Limits
 pub mod Moments
+pub mod Questions
+pub mod Limits
 pub mod Exchanging
 pub mod Witnessed

@@ -12,6 +12,7 @@ use borrow.Author.Tests.{lt-leb, ltb-true, lt-ltb, leb-true}
 use Rattle.words.specs.Words.{plusOf, isTransmit, awaitedOf}
 use Rattle.words.proofs.Sums.{plus-fits, plus-stays}
 use Rattle.records.specs.declared.forms.WordRecord.{WordRecord}
+use Rattle.terminal.specs.States.{momentIn}
 use Rattle.terminal.specs.Commands.{isExempt}
 use Rattle.terminal.specs.Messages.{isUnderWay, isWhole, isBetween, isOver, lateMoment, overdueMoment, earlierOf, awaitedMoment, nextMomentOf}
 use Rattle.terminal.specs.Rules.{rule1Receive, begunOf, stagedOf, movedOf}
@@ -39,6 +40,7 @@ use Rattle.history.proofs.Faults.{fault-either, over-not-due}
 use Rattle.history.proofs.Polling.{over-ends}
 use Rattle.history.proofs.Wiping.{event-marks}
 use Rattle.history.proofs.Replacing.{own-begins}
+use Rattle.history.proofs.Questions.{run-keeps, own-keeps}
 
 -- ---- the message that an own command began
 
@@ -167,9 +169,10 @@ module _ (s : State) (r : WordRecord) (receive transmit : List ℕ) (ks : List C
       (ap (earlierOf (lateMoment its)) overdue ∙ earlier-plus (its .last .0) 206 (r .time .0 + 751) (omega (arith, clock)))
   while Data is = rw (late (ap isBetween is)) refl
 
-  told-while : nextMomentOf its ≡ momentWhile (its .phase) (r .time .0) (its .last .0)
+  told-while : momentIn (run (step s (event (Word r) receive transmit)) ks) ≡ momentWhile (its .phase) (r .time .0) (its .last .0)
   told-while =
-      sym (at-phase its (its .phase) (awaitedMoment (its .phase) its) (missing r its (tracked s r receive transmit ks w) (w .under-way) (w .none) (w .awaits)) refl refl)
+      run-keeps (step s (event (Word r) receive transmit)) ks (own-keeps s r receive transmit (w .accepted) (w .own) (w .quiet))
+      ∙ sym (at-phase its (its .phase) (awaitedMoment (its .phase) its) (missing r its (tracked s r receive transmit ks w) (w .under-way) (w .none) (w .awaits)) refl refl)
       ∙ while (its .phase) refl
 
 pub wait-exactly : WaitExactly

@@ -1,5 +1,6 @@
 -- THE FIRST FILE TO READ. Demand 3 of the user, clause by clause, and what stands beside it: the same of a message between terminals, and that none
--- waits longer than it may; time marks before an event do not matter, and when one does; the kind of the last spacing fault; no word on one bus wipes
+-- waits longer than it may; time marks before an event do not matter, and when one does; the next moment and the kind of the last spacing fault as they are
+-- kept; no word on one bus wipes
 -- out a fault of the other, nor anything else of the stored status; refusals change nothing, and what a refused set-up gives never answers; what an
 -- own command does to what is under way; what can be reached, and what every answer's status has; histories that meet every premise. A statement is a
 -- type; its proof has the name above it and stands in proofs/. `Calls`, `Courses`, `Exchanges`, `States`, `Kinds`, `Witnesses` and `Faults` say the
@@ -17,7 +18,7 @@ use Rattle.words.specs.Refusals.{notRefused}
 use Rattle.words.specs.declared.times.Moment.{Moment}
 use Rattle.words.specs.declared.statuses.Flag.the-variants.{MessageError}
 use Rattle.records.specs.declared.forms.WordRecord.{WordRecord}
-use Rattle.terminal.specs.States.{spacingIn, noMessage, noSending, freshOf, withHost, atTime}
+use Rattle.terminal.specs.States.{spacingIn, noMessage, noSending, freshOf, withHost, atTime, momentIn}
 use Rattle.terminal.specs.Commands.{isOwn, isExempt}
 use Rattle.terminal.specs.Messages.{isUnderWay, isSending, nextMomentOf}
 use Rattle.terminal.specs.Settling.{otherBus, settledStatus, firstPlace, replyOf, storesData, noAnswer}
@@ -28,6 +29,7 @@ use Rattle.terminal.specs.declared.states.SpacingFault.the-variants.{None}
 use Rattle.terminal.specs.declared.states.Setup.{Setup}
 use Rattle.terminal.specs.declared.states.Terminal.{Terminal as State}
 use Rattle.terminal.specs.declared.answers.Answer.{Answer}
+use Rattle.terminal.specs.declared.messages.NextMoment.{NextMoment}
 use Rattle.terminal.specs.declared.messages.NextMoment.the-variants.{At, Never}
 use Rattle.terminal.specs.declared.events.Event.{Event}
 use Rattle.terminal.specs.declared.events.Event.the-variants.{Mark, Word}
@@ -169,13 +171,13 @@ NeverWaitsLonger =
 abbrev pub WaitIsTold : Type 0
 WaitIsTold =
     (s : State) (r : WordRecord) (receive transmit : List ℕ) (ks : List Call) → Waits s r receive transmit ks
-    → NotPast (r .time .0 + 751) (nextMomentOf (run (step s (event (Word r) receive transmit)) ks .message))
+    → NotPast (r .time .0 + 751) (momentIn (run (step s (event (Word r) receive transmit)) ks))
 
 -- wait-exactly: and which it is, by how far the message has come
 abbrev pub WaitExactly : Type 0
 WaitExactly =
     (s : State) (r : WordRecord) (receive transmit : List ℕ) (ks : List Call) → Waits s r receive transmit ks
-    → nextMomentOf (run (step s (event (Word r) receive transmit)) ks .message)
+    → momentIn (run (step s (event (Word r) receive transmit)) ks)
     ≡ momentWhile (run (step s (event (Word r) receive transmit)) ks .message .phase) (r .time .0)
     (run (step s (event (Word r) receive transmit)) ks .message .last .0)
 
@@ -250,13 +252,40 @@ abbrev pub EndsMessage : State → Moment → List ℕ → List ℕ → Type 0
 EndsMessage s t receive transmit =
     (isUnderWay (s .message .phase) ≡ true) × (step s (event (Mark t) receive transmit) .message ≡ noMessage)
 
--- moment-exactly: of every terminal: an accepted time mark does nothing where there is no next moment, or before it; at it or later it ends the message
+-- An accepted time mark does nothing where there is no next moment, or before it; at it or later it ends the message.
+abbrev pub Exactly : State → NextMoment → Type 0
+Exactly s moment =
+    (t : Moment) (receive transmit : List ℕ) → isAccepted s (Mark t) receive transmit ≡ true
+    → (moment ≡ Never → Passes s t receive transmit)
+    × ((next : Moment) → moment ≡ At next → (t .0 < next .0 → Passes s t receive transmit) × (next .0 ≤ t .0 → EndsMessage s t receive transmit))
+
+-- moment-exactly: of every terminal and the next moment of its message
 abbrev pub MomentExactly : Type 0
-MomentExactly =
-    (s : State) (t : Moment) (receive transmit : List ℕ) → isAccepted s (Mark t) receive transmit ≡ true
-    → (nextMomentOf (s .message) ≡ Never → Passes s t receive transmit)
-    × ((next : Moment) → nextMomentOf (s .message) ≡ At next
-    → (t .0 < next .0 → Passes s t receive transmit) × (next .0 ≤ t .0 → EndsMessage s t receive transmit))
+MomentExactly = (s : State) → Exactly s (nextMomentOf (s .message))
+
+-- moment-exactly-after-any-past: of the one that the host is told
+abbrev pub MomentExactlyAfterAnyPast : Type 0
+MomentExactlyAfterAnyPast = (past : Past) → Exactly (afterPast past) (momentIn (afterPast past))
+
+-- ==== kept-moment: "Store it in the terminal's state and have every event, host call, restart and refusal leave it equal to what document 01 would work
+-- out." (02 e)
+
+-- What is kept is what is worked out of the message.
+abbrev pub KeepsMoment : State → Type 0
+KeepsMoment s = momentIn s ≡ nextMomentOf (s .message)
+
+-- kept-moment: "After any calls at all"
+abbrev pub KeptMoment : Type 0
+KeptMoment = (past : Past) → KeepsMoment (afterPast past)
+
+-- set-or-left: of every terminal, whatever it keeps: a call leaves what is kept, and the message with it, or sets it; and a refused one leaves it
+abbrev pub LeavesMoment : State → State → Type 0
+LeavesMoment before after = (after .message ≡ before .message) × (momentIn after ≡ momentIn before)
+
+abbrev pub SetOrLeft : Type 0
+SetOrLeft =
+    (s : State) (k : Call)
+    → (LeavesMoment s (step s k) ⊎ KeepsMoment (step s k)) × (isRefused s k ≡ true → LeavesMoment s (step s k))
 
 -- ==== spacing-kept: "The terminal keeps the kind of its last spacing fault (fresh: none) for the host to read" (02 i)
 
