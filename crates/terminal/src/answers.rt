@@ -248,7 +248,13 @@ impl Terminal {
         let held = self.held_after(status, legal);
         let message = Message::none();
         let answer = self.answer(status, reply);
-        let work = Work::build(message, sending, held);
+        let work = Work {
+            message,
+            sending,
+            next: Moment(0),
+            held,
+            timed: false,
+        };
         Passed { work, answer }
     }
 }

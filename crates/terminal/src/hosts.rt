@@ -9,7 +9,6 @@ use crate::states::Message;
 use crate::states::Sending;
 use crate::states::SpacingFault;
 use crate::states::Terminal;
-use crate::states::Work;
 use crate::tables::is_shut;
 use words::CommandWord;
 use words::StatusWord;
@@ -91,7 +90,15 @@ impl Terminal {
         ensures terminal { λ r. ⌜ r ≡ restartedOf self ⌝ }
     {
         let held = Held::fresh(self.setup.own);
-        self.with_work(Work::build(Message::none(), Sending::none(), held))
+        let message = Message::none();
+        let sending = Sending::none();
+        let mut after = self;
+        after.held = held;
+        after.message = message;
+        after.sending = sending;
+        after.next.0 = 0;
+        after.timed = false;
+        after
     }
 
     // Gives the stored status.
@@ -157,7 +164,7 @@ impl Terminal {
         SpacingFault::None
     }
 
-    // Gives the next moment at which time alone matters. It may differ after every event that is not refused and after a restart.
+    // Gives the next moment at which time alone matters, as it is kept. It may differ after every event that is not refused and after a restart.
     // Tables: none. Refusals: none.
     pub fn next_moment(self) -> NextMoment
         ensures next { λ r. ⌜ r ≡ momentIn self ⌝ }

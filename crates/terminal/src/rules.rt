@@ -122,7 +122,13 @@ impl Work {
         let held = marked.kept(fault);
         let message = Message::none();
         let sending = self.sending;
-        Work::build(message, sending, held)
+        Work {
+            message,
+            sending,
+            next: Moment(0),
+            held,
+            timed: false,
+        }
     }
 
     // By either limit.

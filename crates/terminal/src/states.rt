@@ -95,6 +95,8 @@ pub struct Sending {
     pub on: bool,
 }
 
+// The terminal. `next` is the next moment at which time alone matters where `timed` says that there is one, else 0: it is set with the message, so that the
+// host's question works nothing out (02 e). Two fields, since the enum would leave a hole (DECISIONS 80).
 pub struct Terminal {
     pub message: Message,
     pub sending: Sending,
@@ -319,7 +321,7 @@ impl Sending {
 }
 
 impl Work {
-    // The work of a message, with its next moment.
+    // The work of a message, with the next moment that it has.
     pub(crate) fn build(message: Message, sending: Sending, held: Held) -> Work
         ensures work { λ r. ⌜ r ≡ builtOf message sending held ⌝ }
     {
@@ -418,14 +420,14 @@ impl Terminal {
     {
         let message = work.message;
         let sending = work.sending;
-        let moment = work.next;
+        let next = work.next;
         let held = work.held;
-        let mut next = self;
-        next.message = message;
-        next.sending = sending;
-        next.next = moment;
-        next.held = held;
-        next.timed = work.timed;
-        next
+        let mut after = self;
+        after.message = message;
+        after.sending = sending;
+        after.next = next;
+        after.held = held;
+        after.timed = work.timed;
+        after
     }
 }

@@ -1,4 +1,5 @@
--- Fresh work. Assumes nothing.
+-- Each part fresh. Assumes nothing.
+use Rattle.terminal.specs.Messages.{isWhole, nextMomentOf}
 use borrow.Author.Needs.{needs}
 use Rattle.terminal.proofs.states.Terminal.restart.Statement.{statement}
 use Rattle.terminal.proofs.states.Terminal.restart.Tie as tie
@@ -12,15 +13,9 @@ none-requires c κs = search needs
 none-requires-2 : tie.Need-none-requires-2
 none-requires-2 c κs = search needs
 
-build-requires : tie.Need-build-requires
-build-requires c κs = search needs
-
-with-work-requires : tie.Need-with-work-requires
-with-work-requires c κs = search needs
-
 returns : tie.Need-returns
-returns c =
-    rw (c .with-work .ensures, c .before .build .ensures, c .before .before .none2 .ensures, c .before .before .before .none .ensures, c .before .before .before .before .fresh .ensures)
+unfolding nextMomentOf isWhole
+returns c = rw (c .before .none2 .ensures, c .before .before .none .ensures, c .before .before .before .fresh .ensures)
 
 pub restart-spec : {M : Type 1} → statement M
-restart-spec = tie.close (tie.spec fresh-requires none-requires none-requires-2 build-requires with-work-requires returns)
+restart-spec = tie.close (tie.spec fresh-requires none-requires none-requires-2 returns)

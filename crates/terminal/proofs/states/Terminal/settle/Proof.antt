@@ -2,6 +2,7 @@
 use mathlib.Core.Path.{ap}
 use native.Mathlib.Omega.{arith}
 use denote.Ref.{now}
+use Rattle.terminal.specs.Messages.{isWhole, nextMomentOf}
 use Rattle.terminal.specs.Rules.{settledOf}
 use Rattle.terminal.specs.declared.answers.Reply.{Reply}
 use Rattle.terminal.proofs.Counts.{reply-most}
@@ -35,23 +36,16 @@ none-requires c κs = search needs
 answer-requires : tie.Need-answer-requires
 answer-requires c κs = c .before .before .before .before .before .before .before .before .before .before .before .before .before .before .pre .2
 
-build-requires : tie.Need-build-requires
-build-requires c κs = search needs
-
 same-length : tie.Need-same-length
 same-length c = search needs
 
 returns : tie.Need-returns
-unfolding settledOf
+unfolding settledOf nextMomentOf isWhole
 returns c =
-    let b = c .before in
-    let status = b .before .before .before .before .before .before .before .before .before .settled-status .ensures in
-    let reply = b .before .before .before .before .before .before .before .before .reply .ensures in (
-      rw (b .answer .ensures, status, reply),
-      (
-        rw (c .build .ensures, b .before .before .held-after .ensures, b .before .none .ensures, b .before .before .before .sending .ensures, status, reply),
-        b .before .before .before .before .before .before .store-data .ensures,
-      ),
+    let status = c .before .before .before .before .before .before .before .before .before .settled-status .ensures in
+    let reply = c .before .before .before .before .before .before .before .before .reply .ensures in (
+      rw (c .answer .ensures, status, reply),
+      (rw (c .before .before .held-after .ensures, c .before .none .ensures, c .before .before .before .sending .ensures, status, reply), c .before .before .before .before .before .before .store-data .ensures),
     )
 
 pub settle-spec : {M : Type 1} → statement M
@@ -66,6 +60,5 @@ settle-spec =
     held-after-requires
     none-requires
     answer-requires
-    build-requires
     same-length
     returns)
