@@ -8,7 +8,7 @@
  *
  * The sum starts as 0, has 64 bits and wraps. After a refused event it is turned left by one bit and the refusal added; after one that carries an
  * answer it is turned and there is added the due time XOR the first data word, or 0, XOR the number of data words * 2^32 XOR the status * 2^48. Where
- * the host asks, after each event, refused or not, it is turned once more and the next moment added, 0 where there is none. */
+ * the host asks, after each event, refused or not, it is then turned and the next moment added, 0 where there is none. */
 #ifndef COURSE_H
 #define COURSE_H
 
@@ -18,7 +18,7 @@
 
 #define COURSE_CALL 17 /* bytes */
 
-/* Plays n bytes of calls and gives the sum: the proved terminal, of libcourse.a, and plain C. */
+/* Plays n bytes of calls and gives the sum; `ask` says whether the host asks for the next moment: the proved terminal, of libcourse.a, and plain C. */
 uint64_t course_play(const uint8_t *calls, size_t n, bool ask);
 uint64_t plain_course_play(const uint8_t *calls, size_t n, bool ask);
 

@@ -30,7 +30,7 @@ static Play *const plays[] = {[PLAIN] = plain_course_play, [OURS] = native_play,
 static const char *const names[] = {[PLAIN] = "plain C", [OURS] = "ours", [OTHER] = "the other sources"};
 static double best[3][2]; /* nanoseconds a call */
 
-/* A pass of each side, the one after the other in turn first; whether their sums are equal. */
+/* A pass of each side, beginning with that one; gives whether the sums are equal, and says which is not. */
 static int measure(unsigned sides, unsigned first, bool ask)
 {
     uint64_t sums[3];
@@ -43,22 +43,24 @@ static int measure(unsigned sides, unsigned first, bool ask)
             best[side][ask] = took;
     }
     for (unsigned side = 1; side < sides; side++)
-        if (sums[side] != sums[PLAIN])
+        if (sums[side] != sums[PLAIN]) {
+            printf("%s and plain C differ\n", names[side]);
             return 0;
+        }
     return 1;
 }
 
-static int print_times(void)
+/* Each side is first in turn. A question is what an event with one takes more than one without. */
+static int print_times(size_t events)
 {
     unsigned sides = other_play ? 3 : 2;
     for (unsigned round = 0; round < ROUNDS; round++)
-        if (!measure(sides, round % sides, false) || !measure(sides, round % sides, true)) {
-            printf("ours and plain C differ\n");
+        if (!measure(sides, round % sides, false) || !measure(sides, round % sides, true))
             return 1;
-        }
     for (unsigned side = 0; side < sides; side++)
         printf("    %-18s%7.2f ns, ratio to plain C %.3f; with the question %7.2f ns, ratio %.3f, the question %.2f ns\n", names[side],
-               best[side][0], best[side][0] / best[PLAIN][0], best[side][1], best[side][1] / best[PLAIN][1], best[side][1] - best[side][0]);
+               best[side][0], best[side][0] / best[PLAIN][0], best[side][1], best[side][1] / best[PLAIN][1],
+               (best[side][1] - best[side][0]) * CALLS / (double)events);
     return 0;
 }
 
@@ -69,10 +71,10 @@ int main(int count, char **arguments)
         fprintf(stderr, "usage: native times | copies\n");
         return 2;
     }
-    course_make(course, CALLS);
+    size_t events = course_make(course, CALLS);
     if (times)
-        return print_times();
-    native_play(course, sizeof course, true);
+        return print_times(events);
+    native_play(course, sizeof course, false);
     printf("%.1f bytes\n", (double)copied / CALLS);
     return 0;
 }

@@ -152,7 +152,7 @@ fn play(calls: &[u8], ask: bool, receive: &mut [u16; 1024], transmit: &mut [u16;
     sum
 }
 
-// Gives the sum of the course on a terminal of address 5 and tables of zeros; the host may ask for the next moment after each event.
+// Gives the sum of the course on a terminal of address 5 and tables of zeros; `ask` says whether the host asks for the next moment after each event.
 // Tables: calls is only read. Refusals: none.
 #[no_mangle]
 pub extern "C" fn course_play(calls: &[u8], ask: bool) -> u64

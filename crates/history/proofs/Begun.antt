@@ -10,7 +10,7 @@ use Rattle.records.specs.declared.forms.WordRecord.{WordRecord}
 use Rattle.terminal.specs.Commands.{isValidRecord, isOwn, isExempt}
 use Rattle.terminal.specs.Messages.{isCounting, isBetween, isSending}
 use Rattle.terminal.specs.Settling.{isShut}
-use Rattle.terminal.specs.Rules.{rule1, notedStatus, notedCommand, firstPhase, begunOf, rule4, rules3to6}
+use Rattle.terminal.specs.Rules.{rule1, rule3, notedStatus, notedCommand, firstPhase, begunOf, rule4, rules3to6}
 use Rattle.terminal.specs.Events.{passedOf}
 use Rattle.terminal.specs.declared.states.Own.{Own}
 use Rattle.terminal.specs.declared.states.Held.{Held}
@@ -18,7 +18,7 @@ use Rattle.terminal.specs.declared.states.Phase.{Phase}
 use Rattle.terminal.specs.declared.states.Sending.{Sending}
 use Rattle.terminal.specs.declared.states.Terminal.{Terminal as State}
 use Rattle.terminal.specs.declared.events.Event.the-variants.{Word}
-use Rattle.history.specs.Calls.{event, step}
+use Rattle.history.specs.Calls.{event, isAccepted, step}
 use Rattle.history.specs.Courses.{Command}
 use Rattle.history.proofs.Tests.{cond-cases}
 use Rattle.history.proofs.Steps.{stepped}
@@ -59,19 +59,24 @@ own-command own r valid sync to =
     let command : eqb (r .sync) commandSync ≡ true = rw sync in
     rw (valid, command, eq-eqb (addressOf (r .word)) (own .address) to)
 
-rules-own : (s : State) (r : WordRecord) → isSending (s .sending) (r .bus) (r .time .0) ≡ false → isOwn (s .setup .own) r ≡ true → rules3to6 s r ≡ rule4 s r
+rules-own : (s : State) (r : WordRecord) → rule3 s r ≡ false → isOwn (s .setup .own) r ≡ true → rules3to6 s r ≡ rule4 s r
 unfolding rules3to6
 rules-own s r quiet own = rw (quiet, own)
+
+-- an accepted own command on a bus on which the terminal is not sending
+pub own-step : (s : State) (r : WordRecord) (receive transmit : List ℕ) → isAccepted s (Word r) receive transmit ≡ true
+    → isOwn (s .setup .own) r ≡ true
+    → rule3 (passedOf s (r .time .0) transmit) r ≡ false
+    → step s (event (Word r) receive transmit) ≡ rule4 (passedOf s (r .time .0) transmit) r
+own-step s r receive transmit ok own quiet =
+    stepped s (Word r) receive transmit ok
+    ∙ rules-own (passedOf s (r .time .0) transmit) r quiet (passed-own s (r .time .0) transmit r ∙ own)
 
 module _ (s : State) (r : WordRecord) (receive transmit : List ℕ) (k : Command s r receive transmit) where
   pub begun-step : step s (event (Word r) receive transmit) ≡ rule4 (passedOf s (r .time .0) transmit) r
   begun-step =
-      let x : State = passedOf s (r .time .0) transmit in
-      let quiet : isSending (x .sending) (r .bus) (r .time .0) ≡ false =
-      ap (λ (y : Sending). isSending y (r .bus) (r .time .0)) (passed-sending s (r .time .0) transmit) ∙ k .quiet in
-      let own : isOwn (x .setup .own) r ≡ true =
-      passed-own s (r .time .0) transmit r ∙ own-command (s .setup .own) r (k .valid) (k .sync) (k .own) in
-      stepped s (Word r) receive transmit (k .accepted) ∙ rules-own x r quiet own
+      own-step s r receive transmit (k .accepted) (own-command (s .setup .own) r (k .valid) (k .sync) (k .own))
+      (ap (λ (y : Sending). isSending y (r .bus) (r .time .0)) (passed-sending s (r .time .0) transmit) ∙ k .quiet)
 
   pub begun-way : Way (step s (event (Word r) receive transmit)) (begunOf r) (step s (event (Word r) receive transmit))
   unfolding rule4

@@ -49,12 +49,12 @@ module _ (a k t : ℕ) where
 -- ---- a moment, or none
 
 -- which it is
-abbrev momentIn : NextMoment → ℕ
-momentIn (At m) = m .0
-momentIn Never = 0
+abbrev numberIn : NextMoment → ℕ
+numberIn (At m) = m .0
+numberIn Never = 0
 
 at-is : {a : ℕ} {next : Moment} → At (record { 0 = a }) ≡ At next → next .0 ≡ a
-at-is is = sym (ap momentIn is)
+at-is is = sym (ap numberIn is)
 
 abbrev isNever : NextMoment → Bool
 isNever (At m) = false

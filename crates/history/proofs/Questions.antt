@@ -5,11 +5,11 @@ use mathlib.Core.Bool.{Bool, true, false, cond, _&&_}
 use mathlib.Core.List.{List, [], _∷_}
 use mathlib.Core.Logic.{_⊎_, inl, inr}
 use Rattle.records.specs.declared.forms.WordRecord.{WordRecord}
-use Rattle.terminal.specs.States.{keptMoment, isTimed, freshOf, withMessage, momentIn}
+use Rattle.terminal.specs.States.{storedMoment, isTimed, freshOf, withMessage, momentIn}
 use Rattle.terminal.specs.Commands.{isOwn}
-use Rattle.terminal.specs.Messages.{isOn, awaitsData, isWhole, isDue, isOver, isNextData, isSecond, isStatusFrom, nextMomentOf}
+use Rattle.terminal.specs.Messages.{isOn, awaitsData, isDue, isOver, isNextData, isSecond, isStatusFrom, nextMomentOf}
 use Rattle.terminal.specs.Rules.{settledOf, rule1, faultyOf, rule2, rule3, rule4, nextData, nextWord, rule5, rules3to6}
-use Rattle.terminal.specs.Events.{timeOf, setUpOf, passedOf, takenOf, happensOf, eventOf}
+use Rattle.terminal.specs.Events.{timeOf, setUpOf, passedOf, takenOf}
 use Rattle.terminal.specs.declared.states.SpacingFault.{SpacingFault}
 use Rattle.terminal.specs.declared.states.Phase.{Phase}
 use Rattle.terminal.specs.declared.states.Phase.the-variants.{Idle, First, Pledged, Confirmed, Data}
@@ -21,16 +21,17 @@ use Rattle.terminal.specs.declared.messages.NextMoment.the-variants.{At, Never}
 use Rattle.terminal.specs.declared.events.Event.{Event}
 use Rattle.terminal.specs.declared.events.Event.the-variants.{Mark, Word}
 use Rattle.terminal.specs.declared.setups.SetUp.{SetUp}
+use Rattle.terminal.proofs.Moments.{none-never}
 use Rattle.history.specs.Calls.{Call, setUp, event, host, clearSelftest, restart, isAccepted, isSetUp, step, run, afterPast}
-use Rattle.history.specs.Demands.{KeepsMoment, LeavesMoment, KeptMoment, SetOrLeft, MomentExactlyAfterAnyPast, Exactly}
-use Rattle.history.proofs.Tests.{cond-cases}
-use Rattle.history.proofs.Steps.{accepted, stepped, refused-stays, refusal-keeps}
-use Rattle.history.proofs.Passing.{passed-own}
+use Rattle.history.specs.Demands.{KeepsMoment, KeptMoment, KeptFromFresh, LeavesMoment, isLeaving, SetOrLeft, MomentExactlyAfterAnyPast}
+use Rattle.history.proofs.Tests.{false≢, cond-cases}
+use Rattle.history.proofs.Steps.{stepped, refused-stays, refusal-keeps}
+use Rattle.history.proofs.Begun.{own-step}
 use Rattle.history.proofs.Moments.{moment-exactly}
 
 -- ---- what is set with a message is its next moment
 
-told-kept : (moment : NextMoment) → cond (isTimed moment) (At (keptMoment moment)) Never ≡ moment
+told-kept : (moment : NextMoment) → cond (isTimed moment) (At (storedMoment moment)) Never ≡ moment
 told-kept (At moment) = refl
 told-kept Never = refl
 
@@ -39,8 +40,8 @@ unfolding momentIn
 with-keeps s m = told-kept (nextMomentOf m)
 
 fresh-keeps : (setup : Setup) → KeepsMoment (freshOf setup)
-unfolding momentIn nextMomentOf isWhole
-fresh-keeps setup = refl
+unfolding momentIn
+fresh-keeps setup = sym none-never
 
 set-up-keeps : (address : ℕ) (receive transmit : List ℕ) → KeepsMoment (setUpOf address receive transmit .terminal)
 unfolding setUpOf
@@ -131,13 +132,24 @@ call-either s (host setting) = same s
 call-either s clearSelftest = same s
 call-either s restart = inr (told-kept _)
 
+leaving : (s : State) (k : Call) → isLeaving s k ≡ true → LeavesMoment s (step s k)
+unfolding step momentIn
+leaving s (setUp address receive transmit) bad = rw (refusal-keeps s (setUp address receive transmit) bad) (refl, refl)
+leaving s (event e receive transmit) bad = rw (refusal-keeps s (event e receive transmit) bad) (refl, refl)
+leaving s (host setting) is = (refl, refl)
+leaving s clearSelftest is = (refl, refl)
+leaving s restart is = false≢ is
+
 pub set-or-left : SetOrLeft
-set-or-left s k = (call-either s k, λ bad. rw (refusal-keeps s k bad) (refl, refl))
+set-or-left s k = (call-either s k, leaving s k)
 
 pub run-keeps : (s : State) (ks : List Call) → KeepsMoment s → KeepsMoment (run s ks)
 unfolding run
 run-keeps s [] keeps = keeps
 run-keeps s (k ∷ ks) keeps = run-keeps (step s k) ks (either-keeps s (step s k) (call-either s k) keeps)
+
+pub kept-from-fresh : KeptFromFresh
+kept-from-fresh setup ks = run-keeps (freshOf setup) ks (fresh-keeps setup)
 
 pub kept-moment : KeptMoment
 kept-moment past = run-keeps _ (past .calls) (set-up-keeps (past .address) (past .receive) (past .transmit))
@@ -148,14 +160,9 @@ moment-exactly-after-any-past past = rw (kept-moment past) (moment-exactly (afte
 
 -- ---- an accepted own command that is not ignored sets it, whatever was kept
 
-own-taken : (s : State) (r : WordRecord) → rule3 s r ≡ false → isOwn (s .setup .own) r ≡ true → rules3to6 s r ≡ rule4 s r
-unfolding rules3to6
-own-taken s r quiet own = rw (quiet, own) refl
-
 pub own-keeps : (s : State) (r : WordRecord) (receive transmit : List ℕ) → isAccepted s (Word r) receive transmit ≡ true
     → isOwn (s .setup .own) r ≡ true
     → rule3 (passedOf s (r .time .0) transmit) r ≡ false
     → KeepsMoment (step s (event (Word r) receive transmit))
 own-keeps s r receive transmit ok own quiet =
-    let passed : State = passedOf s (r .time .0) transmit in
-    rw (stepped s (Word r) receive transmit ok, own-taken passed r quiet (passed-own s (r .time .0) transmit r ∙ own)) (rule4-keeps passed r)
+    rw (own-step s r receive transmit ok own quiet) (rule4-keeps (passedOf s (r .time .0) transmit) r)

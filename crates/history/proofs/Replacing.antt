@@ -22,11 +22,12 @@ use Rattle.terminal.specs.declared.states.Terminal.{Terminal as State}
 use Rattle.terminal.specs.declared.events.Event.{Event}
 use Rattle.terminal.specs.declared.events.Event.the-variants.{Mark, Word}
 use Rattle.terminal.specs.declared.events.Happened.{Happened}
-use Rattle.history.specs.Calls.{event, isAccepted, bringsOwn}
+use Rattle.history.specs.Calls.{event, isAccepted, step, bringsOwn}
 use Rattle.history.specs.Demands.{Begins, Replaced, Cut, CutExactly, CutByOwnAlone}
 use Rattle.history.proofs.Tests.{false≢, cond-cases, and-left, and-right, and-false}
 use Rattle.history.proofs.Passing.{passed-own, passed-under-way, still}
 use Rattle.history.proofs.Steps.{accepted, accepted-table}
+use Rattle.history.proofs.Begun.{own-step}
 
 -- ---- the stored status of an own command
 
@@ -80,10 +81,8 @@ pub own-begins : (s : State) (r : WordRecord) (receive transmit : List ℕ) → 
     → isOwn (s .setup .own) r ≡ true
     → rule3 (passedOf s (r .time .0) transmit) r ≡ false
     → Begins (passedOf s (r .time .0) transmit) r (eventOf s (Word r) receive transmit .terminal)
-unfolding happensOf rules3to6
-own-begins s r receive transmit ok own quiet =
-    rw (accepted s (Word r) receive transmit ok, quiet, passed-own s (r .time .0) transmit r, own)
-    (rule4-begins (passedOf s (r .time .0) transmit) r)
+unfolding step
+own-begins s r receive transmit ok own quiet = rw (own-step s r receive transmit ok own quiet) (rule4-begins (passedOf s (r .time .0) transmit) r)
 
 -- the message under way is left as it is by rules 1 and 2, then its place is taken
 pub replaced : Replaced

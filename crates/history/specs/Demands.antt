@@ -1,13 +1,12 @@
 -- THE FIRST FILE TO READ. Demand 3 of the user, clause by clause, and what stands beside it: the same of a message between terminals, and that none
--- waits longer than it may; time marks before an event do not matter, and when one does; the next moment and the kind of the last spacing fault as they are
--- kept; no word on one bus wipes
--- out a fault of the other, nor anything else of the stored status; refusals change nothing, and what a refused set-up gives never answers; what an
--- own command does to what is under way; what can be reached, and what every answer's status has; histories that meet every premise. A statement is a
--- type; its proof has the name above it and stands in proofs/. `Calls`, `Courses`, `Exchanges`, `States`, `Kinds`, `Witnesses` and `Faults` say the
--- words. Assumes nothing.
+-- waits longer than it may; time marks before an event do not matter, and when one does; the next moment and the kind of the last spacing fault, as they
+-- are kept; no word on one bus wipes out a fault of the other, nor anything else of the stored status; refusals change nothing, and what a refused set-up
+-- gives never answers; what an own command does to what is under way; what can be reached, and what every answer's status has; histories that meet every
+-- premise. A statement is a type; its proof has the name above it and stands in proofs/. `Calls`, `Courses`, `Exchanges`, `States`, `Kinds`, `Witnesses`
+-- and `Faults` say the words. Assumes nothing.
 use mathlib.Core.Path.{_≡_}
 use Prim.Native.Nat.{ℕ, _+_, _≤_, _<_}
-use mathlib.Core.Bool.{true, false, cond, _&&_}
+use mathlib.Core.Bool.{Bool, true, false, cond, _&&_}
 use mathlib.Core.List.{List, [], _∷_, _++_}
 use mathlib.Core.Logic.{_⊎_}
 use lib.Dec.{T}
@@ -252,25 +251,25 @@ abbrev pub EndsMessage : State → Moment → List ℕ → List ℕ → Type 0
 EndsMessage s t receive transmit =
     (isUnderWay (s .message .phase) ≡ true) × (step s (event (Mark t) receive transmit) .message ≡ noMessage)
 
--- An accepted time mark does nothing where there is no next moment, or before it; at it or later it ends the message.
-abbrev pub Exactly : State → NextMoment → Type 0
-Exactly s moment =
+-- Where `moment` is none, or before it, an accepted time mark does nothing; at it or later it ends the message.
+abbrev pub MattersExactly : State → NextMoment → Type 0
+MattersExactly s moment =
     (t : Moment) (receive transmit : List ℕ) → isAccepted s (Mark t) receive transmit ≡ true
     → (moment ≡ Never → Passes s t receive transmit)
     × ((next : Moment) → moment ≡ At next → (t .0 < next .0 → Passes s t receive transmit) × (next .0 ≤ t .0 → EndsMessage s t receive transmit))
 
--- moment-exactly: of every terminal and the next moment of its message
+-- moment-exactly: of every terminal, and the next moment that is worked out of its message
 abbrev pub MomentExactly : Type 0
-MomentExactly = (s : State) → Exactly s (nextMomentOf (s .message))
+MomentExactly = (s : State) → MattersExactly s (nextMomentOf (s .message))
 
--- moment-exactly-after-any-past: of the one that the host is told
+-- moment-exactly-after-any-past: after any past, and the next moment that the host is told
 abbrev pub MomentExactlyAfterAnyPast : Type 0
-MomentExactlyAfterAnyPast = (past : Past) → Exactly (afterPast past) (momentIn (afterPast past))
+MomentExactlyAfterAnyPast = (past : Past) → MattersExactly (afterPast past) (momentIn (afterPast past))
 
 -- ==== kept-moment: "Store it in the terminal's state and have every event, host call, restart and refusal leave it equal to what document 01 would work
 -- out." (02 e)
 
--- What is kept is what is worked out of the message.
+-- what is kept is what is worked out of the message
 abbrev pub KeepsMoment : State → Type 0
 KeepsMoment s = momentIn s ≡ nextMomentOf (s .message)
 
@@ -278,14 +277,26 @@ KeepsMoment s = momentIn s ≡ nextMomentOf (s .message)
 abbrev pub KeptMoment : Type 0
 KeptMoment = (past : Past) → KeepsMoment (afterPast past)
 
--- set-or-left: of every terminal, whatever it keeps: a call leaves what is kept, and the message with it, or sets it; and a refused one leaves it
+-- kept-from-fresh: also of what a refused set-up gives, and of `Terminal::fresh` with any set-up, after any calls
+abbrev pub KeptFromFresh : Type 0
+KeptFromFresh = (setup : Setup) (ks : List Call) → KeepsMoment (run (freshOf setup) ks)
+
+-- set-or-left: of every terminal, whatever it keeps: a call leaves what is kept, and the message with it, or sets it; one that is refused, and one of the
+-- host that is no restart, leaves it
 abbrev pub LeavesMoment : State → State → Type 0
 LeavesMoment before after = (after .message ≡ before .message) × (momentIn after ≡ momentIn before)
+
+abbrev pub isLeaving : State → Call → Bool
+isLeaving s (setUp address receive transmit) = isRefused s (setUp address receive transmit)
+isLeaving s (event e receive transmit) = isRefused s (event e receive transmit)
+isLeaving s (host setting) = true
+isLeaving s clearSelftest = true
+isLeaving s restart = false
 
 abbrev pub SetOrLeft : Type 0
 SetOrLeft =
     (s : State) (k : Call)
-    → (LeavesMoment s (step s k) ⊎ KeepsMoment (step s k)) × (isRefused s k ≡ true → LeavesMoment s (step s k))
+    → (LeavesMoment s (step s k) ⊎ KeepsMoment (step s k)) × (isLeaving s k ≡ true → LeavesMoment s (step s k))
 
 -- ==== spacing-kept: "The terminal keeps the kind of its last spacing fault (fresh: none) for the host to read" (02 i)
 

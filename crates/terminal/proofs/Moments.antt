@@ -8,11 +8,13 @@ use native.Mathlib.Decide.{decLe}
 use lib.Dec.{ltb, leb}
 use borrow.Author.Tests.{le-leb, lt-leb, le-ltb, lt-ltb}
 use Rattle.words.specs.Words.{awaitedOf}
+use Rattle.terminal.specs.States.{noMessage}
 use Rattle.terminal.specs.Messages.{awaitsData, isWhole, awaitsFirst, awaitedMoment, nextMomentOf}
 use Rattle.terminal.specs.declared.states.Phase.{Phase}
 use Rattle.terminal.specs.declared.states.Phase.the-variants.{Idle, First, Pledged, Confirmed, Data}
 use Rattle.terminal.specs.declared.states.Message.{Message}
 use Rattle.terminal.specs.declared.messages.NextMoment.{NextMoment}
+use Rattle.terminal.specs.declared.messages.NextMoment.the-variants.{Never}
 
 -- not at most is less
 not-most : (a b : ℕ) → ltb b a ≡ not (leb a b)
@@ -36,6 +38,11 @@ first-at m First x is h = rw is h
 first-at m (Pledged address) x is h = rw is h
 first-at m Confirmed x is h = h ∙ (rw is (not-most (awaitedOf (m .command .0)) (m .got)))
 first-at m Data x is h = rw is h
+
+-- with no message there is none
+pub none-never : nextMomentOf noMessage ≡ Never
+unfolding nextMomentOf isWhole
+none-never = refl
 
 pub at-phase : (m : Message) (p : Phase) (x : NextMoment) → isWhole m ≡ false → m .phase ≡ p → x ≡ awaitedMoment p m → x ≡ nextMomentOf m
 unfolding nextMomentOf

@@ -132,9 +132,9 @@ noSending = record { from = record { 0 = 0 }; words = 0; bus = 0; on = false }
 
 -- ---- the next moment as it is kept: the moment, 0 where there is none, and whether there is one (02 e; DECISIONS 80)
 
-abbrev pub keptMoment : NextMoment → Moment
-keptMoment (At moment) = moment
-keptMoment Never = record { 0 = 0 }
+abbrev pub storedMoment : NextMoment → Moment
+storedMoment (At moment) = moment
+storedMoment Never = record { 0 = 0 }
 
 abbrev pub isTimed : NextMoment → Bool
 isTimed (At moment) = true
@@ -166,14 +166,15 @@ withHost s host = stateOf (s .setup) host (s .held) (s .message) (s .sending) (s
 abbrev pub withHeld : Terminal → Held → Terminal
 withHeld s held = stateOf (s .setup) (s .host) held (s .message) (s .sending) (s .time .0) (s .next) (s .timed)
 
+-- With another next moment alone: only Works.antt, which follows the code's own fields, asks for it.
 abbrev pub withNext : Terminal → Moment → Bool → Terminal
 withNext s next timed = stateOf (s .setup) (s .host) (s .held) (s .message) (s .sending) (s .time .0) next timed
 
--- "Store it in the terminal's state and have every event, host call, restart and refusal leave it equal to what document 01 would work out." (02 e): it is
--- set with the message, here and nowhere else, and what leaves the message leaves it.
+-- "Store it in the terminal's state and have every event, host call, restart and refusal leave it equal to what document 01 would work out." (02 e): the
+-- rules and calls that change the message do it by this, and set it with the message; those that leave the message leave it.
 abbrev pub withMessage : Terminal → Message → Terminal
 withMessage s message =
-    stateOf (s .setup) (s .host) (s .held) message (s .sending) (s .time .0) (keptMoment (nextMomentOf message)) (isTimed (nextMomentOf message))
+    stateOf (s .setup) (s .host) (s .held) message (s .sending) (s .time .0) (storedMoment (nextMomentOf message)) (isTimed (nextMomentOf message))
 
 abbrev pub withSending : Terminal → Sending → Terminal
 withSending s sending = stateOf (s .setup) (s .host) (s .held) (s .message) sending (s .time .0) (s .next) (s .timed)

@@ -7,7 +7,7 @@ use lib.Dec.{leb}
 use lib.ListN.{getD, replicate}
 use Rattle.words.specs.Words.{addressOf, awaitedOf}
 use Rattle.records.specs.declared.forms.WordRecord.{WordRecord}
-use Rattle.terminal.specs.States.{setupOf, keptMoment, isTimed, freshOf, withHeld, withNext, withMessage, withSending}
+use Rattle.terminal.specs.States.{setupOf, storedMoment, isTimed, freshOf, withHeld, withNext, withMessage, withSending}
 use Rattle.terminal.specs.Commands.{isOwn}
 use Rattle.terminal.specs.Messages.{isOn, awaitsData, isSending, isNextData, isSecond, isStatusFrom, nextMomentOf}
 use Rattle.terminal.specs.Settling.{otherBus}
@@ -39,7 +39,7 @@ abbrev pub builtOf : Message → Sending → Held → Work
 builtOf message sending held = record {
   message = message;
   sending = sending;
-  next = keptMoment (nextMomentOf message);
+  next = storedMoment (nextMomentOf message);
   held = held;
   timed = isTimed (nextMomentOf message);
 }

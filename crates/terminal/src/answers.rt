@@ -248,6 +248,7 @@ impl Terminal {
         let held = self.held_after(status, legal);
         let message = Message::none();
         let answer = self.answer(status, reply);
+        // with no message there is no next moment
         let work = Work {
             message,
             sending,

@@ -164,7 +164,8 @@ impl Terminal {
         SpacingFault::None
     }
 
-    // Gives the next moment at which time alone matters, as it is kept. It may differ after every event that is not refused and after a restart.
+    // Gives the next moment at which time alone matters, as it is kept: after any calls that of the message (`kept-moment` of `history`). It may differ after
+    // every event that is not refused and after a restart.
     // Tables: none. Refusals: none.
     pub fn next_moment(self) -> NextMoment
         ensures next { λ r. ⌜ r ≡ momentIn self ⌝ }

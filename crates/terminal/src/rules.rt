@@ -122,13 +122,7 @@ impl Work {
         let held = marked.kept(fault);
         let message = Message::none();
         let sending = self.sending;
-        Work {
-            message,
-            sending,
-            next: Moment(0),
-            held,
-            timed: false,
-        }
+        Work::build(message, sending, held)
     }
 
     // By either limit.

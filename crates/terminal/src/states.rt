@@ -95,8 +95,8 @@ pub struct Sending {
     pub on: bool,
 }
 
-// The terminal. `next` is the next moment at which time alone matters where `timed` says that there is one, else 0: it is set with the message, so that the
-// host's question works nothing out (02 e). Two fields, since the enum would leave a hole (DECISIONS 80).
+// The terminal. `next` is the next moment at which time alone matters, where `timed` says that there is one: it is set with the message, so that the host's
+// question works nothing out (02 e). Two fields, since with the enum an event is slower (DECISIONS 80).
 pub struct Terminal {
     pub message: Message,
     pub sending: Sending,

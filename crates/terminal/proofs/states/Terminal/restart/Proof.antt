@@ -1,5 +1,5 @@
 -- Each part fresh. Assumes nothing.
-use Rattle.terminal.specs.Messages.{isWhole, nextMomentOf}
+use Rattle.terminal.proofs.Moments.{none-never}
 use borrow.Author.Needs.{needs}
 use Rattle.terminal.proofs.states.Terminal.restart.Statement.{statement}
 use Rattle.terminal.proofs.states.Terminal.restart.Tie as tie
@@ -14,8 +14,7 @@ none-requires-2 : tie.Need-none-requires-2
 none-requires-2 c κs = search needs
 
 returns : tie.Need-returns
-unfolding nextMomentOf isWhole
-returns c = rw (c .before .none2 .ensures, c .before .before .none .ensures, c .before .before .before .fresh .ensures)
+returns c = rw (c .before .none2 .ensures, c .before .before .none .ensures, c .before .before .before .fresh .ensures, none-never)
 
 pub restart-spec : {M : Type 1} → statement M
 restart-spec = tie.close (tie.spec fresh-requires none-requires none-requires-2 returns)

@@ -2,10 +2,10 @@
 use mathlib.Core.Path.{ap}
 use native.Mathlib.Omega.{arith}
 use denote.Ref.{now}
-use Rattle.terminal.specs.Messages.{isWhole, nextMomentOf}
 use Rattle.terminal.specs.Rules.{settledOf}
 use Rattle.terminal.specs.declared.answers.Reply.{Reply}
 use Rattle.terminal.proofs.Counts.{reply-most}
+use Rattle.terminal.proofs.Moments.{none-never}
 use borrow.Author.Needs.{needs}
 use Rattle.terminal.proofs.states.Terminal.settle.Statement.{statement}
 use Rattle.terminal.proofs.states.Terminal.settle.Tie as tie
@@ -40,12 +40,12 @@ same-length : tie.Need-same-length
 same-length c = search needs
 
 returns : tie.Need-returns
-unfolding settledOf nextMomentOf isWhole
+unfolding settledOf
 returns c =
     let status = c .before .before .before .before .before .before .before .before .before .settled-status .ensures in
     let reply = c .before .before .before .before .before .before .before .before .reply .ensures in (
       rw (c .answer .ensures, status, reply),
-      (rw (c .before .before .held-after .ensures, c .before .none .ensures, c .before .before .before .sending .ensures, status, reply), c .before .before .before .before .before .before .store-data .ensures),
+      (rw (c .before .before .held-after .ensures, c .before .none .ensures, c .before .before .before .sending .ensures, status, reply, none-never), c .before .before .before .before .before .before .store-data .ensures),
     )
 
 pub settle-spec : {M : Type 1} → statement M
