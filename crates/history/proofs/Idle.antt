@@ -22,7 +22,7 @@ abbrev None : Message → Type 0
 None m = m ≡ noMessage
 
 -- what is under way is not none
-not-none : {X : Type 0} (m : Message) → isUnderWay (m .phase) ≡ true → None m → X
+pub not-none : {X : Type 0} (m : Message) → isUnderWay (m .phase) ≡ true → None m → X
 not-none m under idle = false≢ (ap (λ (x : Message). isUnderWay (x .phase)) (sym idle) ∙ under)
 
 -- where rules 1 and 2 leave none, an event that brings no own command leaves none

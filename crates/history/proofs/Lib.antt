@@ -28,6 +28,7 @@ pub mod Pasts
 pub mod Replacing
 pub mod Moments
 pub mod Questions
+pub mod Ahead
 pub mod Limits
 pub mod Exchanging
 pub mod Witnessed

@@ -14,7 +14,7 @@ use Rattle.words.proofs.Sums.{plus-fits, plus-stays}
 use Rattle.records.specs.declared.forms.WordRecord.{WordRecord}
 use Rattle.terminal.specs.States.{momentIn}
 use Rattle.terminal.specs.Commands.{isExempt}
-use Rattle.terminal.specs.Messages.{isUnderWay, isWhole, isBetween, isOver, lateMoment, overdueMoment, earlierOf, awaitedMoment, nextMomentOf}
+use Rattle.terminal.specs.Messages.{isUnderWay, isWhole, isBetween, isOver, lateMoment, overdueMoment, earlierOf, awaitedMoment}
 use Rattle.terminal.specs.Rules.{rule1Receive, begunOf, stagedOf, movedOf}
 use Rattle.terminal.specs.Events.{timeOf}
 use Rattle.terminal.specs.declared.states.Own.{Own}

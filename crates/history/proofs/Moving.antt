@@ -1,6 +1,6 @@
 -- Rules 3 to 6: what they keep of a state, and what they leave true of its message. Assumes nothing.
-use mathlib.Core.Path.{_≡_, refl}
-use mathlib.Core.Bool.{true, _&&_}
+use mathlib.Core.Path.{_≡_, refl, ap}
+use mathlib.Core.Bool.{Bool, true, false, _&&_}
 use Rattle.records.specs.declared.forms.WordRecord.{WordRecord}
 use Rattle.terminal.specs.States.{noMessage, withMessage}
 use Rattle.terminal.specs.Commands.{isOwn}
@@ -42,11 +42,26 @@ module _ {A : Type 0} (part : State → A)
       cond-cases same (isOwn (s .setup .own) r) (λ own. begun s r)
       (λ foreign. cond-cases same (isOn (s .message) (r .bus)) (λ on. next-keeps (s .message .phase)) (λ off. refl)))
 
+-- the phases that a word ends that is no data word: a second command word may come, or its status is awaited
+abbrev pub isAsking : Phase → Bool
+isAsking Idle = false
+isAsking First = true
+isAsking (Pledged address) = true
+isAsking Confirmed = false
+isAsking Data = false
+
+pub asking-under-way : (p : Phase) → isAsking p ≡ true → isUnderWay p ≡ true
+asking-under-way Idle h = h
+asking-under-way First h = h
+asking-under-way (Pledged address) h = h
+asking-under-way Confirmed h = refl
+asking-under-way Data h = refl
+
 -- what holds of no message, and of one with its next word, holds after them; of one that an own command begins, where it holds of that. The next word that
 -- is no data word leads to a phase between terminals.
 module _ (P : Message → Type 0) (none : P noMessage) (r : WordRecord)
     (staged : (m : Message) → isUnderWay (m .phase) ≡ true → P m → P (stagedOf m r))
-    (moved : (m : Message) (p : Phase) → isBetween p ≡ true → isUnderWay (m .phase) ≡ true → P m → P (movedOf m p r))
+    (moved : (m : Message) (p : Phase) → isBetween p ≡ true → isAsking (m .phase) ≡ true → P m → P (movedOf m p r))
     (s : State) (h : P (s .message)) where
   abbrev holds : State → Type 0
   holds x = P (x .message)
@@ -55,13 +70,15 @@ module _ (P : Message → Type 0) (none : P noMessage) (r : WordRecord)
   unfolding nextData faultyOf
   data-holds on = cond-cases holds (awaitsData (s .message) && isNextData (s .message) r) (λ good. staged (s .message) on h) (λ bad. none)
 
-  next-holds : (p : Phase) → isUnderWay (s .message .phase) ≡ true → holds (nextWord p s r)
+  next-holds : (p : Phase) → s .message .phase ≡ p → isUnderWay (s .message .phase) ≡ true → holds (nextWord p s r)
   unfolding nextWord faultyOf
-  next-holds Idle on = h
-  next-holds Data on = data-holds on
-  next-holds Confirmed on = data-holds on
-  next-holds First on = cond-cases holds (isSecond (s .setup .own) (s .message) r) (λ second. moved (s .message) _ refl on h) (λ other. data-holds on)
-  next-holds (Pledged address) on = cond-cases holds (isStatusFrom address r) (λ from. moved (s .message) _ refl on h) (λ other. none)
+  next-holds Idle is on = h
+  next-holds Data is on = data-holds on
+  next-holds Confirmed is on = data-holds on
+  next-holds First is on =
+      cond-cases holds (isSecond (s .setup .own) (s .message) r) (λ second. moved (s .message) _ refl (ap isAsking is) h) (λ other. data-holds on)
+  next-holds (Pledged address) is on =
+      cond-cases holds (isStatusFrom address r) (λ from. moved (s .message) _ refl (ap isAsking is) h) (λ other. none)
 
   pub rules-hold : (isOwn (s .setup .own) r ≡ true → P (begunOf r)) → holds (rules3to6 s r)
   unfolding rules3to6 rule4 rule5
@@ -69,4 +86,4 @@ module _ (P : Message → Type 0) (none : P noMessage) (r : WordRecord)
       cond-cases holds (rule3 s r) (λ sending. h)
       (λ quiet.
       cond-cases holds (isOwn (s .setup .own) r) begun
-      (λ foreign. cond-cases holds (isOn (s .message) (r .bus)) (λ on. next-holds (s .message .phase) (unfold isOn in search (and-left, on))) (λ off. h)))
+      (λ foreign. cond-cases holds (isOn (s .message) (r .bus)) (λ on. next-holds (s .message .phase) refl (unfold isOn in search (and-left, on))) (λ off. h)))

@@ -13,7 +13,7 @@ use Rattle.records.specs.declared.forms.WordRecord.{WordRecord}
 use Rattle.terminal.specs.Commands.{isOwn, isExempt}
 use Rattle.terminal.specs.Messages.{isSending}
 use Rattle.terminal.specs.Settling.{otherBus}
-use Rattle.terminal.specs.Rules.{rule1Answer, rule1Receive, rule3, notedStatus, notedCommand, rule4, cutsSending, rules3to6}
+use Rattle.terminal.specs.Rules.{rule1Answer, rule1Receive, rule3, notedStatus, notedCommand, rule4, cutsSending}
 use Rattle.terminal.specs.Events.{passedOf, happensOf, eventOf}
 use Rattle.terminal.specs.declared.states.Own.{Own}
 use Rattle.terminal.specs.declared.states.Held.{Held}

@@ -20,10 +20,10 @@ use Rattle.history.specs.Courses.{NoOwn}
 use Rattle.history.proofs.Tests.{true≢, cond-cases}
 use Rattle.history.proofs.Steps.{stepped, refused-stays}
 use Rattle.history.proofs.Passing.{passed-own, passed-message}
-use Rattle.history.proofs.Moving.{rules-hold}
+use Rattle.history.proofs.Moving.{asking-under-way, rules-hold}
 
 -- a terminal that a set-up gives has no message
-set-up-idle : (address : ℕ) (receive transmit : List ℕ) → setUpOf address receive transmit .terminal .message ≡ noMessage
+pub set-up-idle : (address : ℕ) (receive transmit : List ℕ) → setUpOf address receive transmit .terminal .message ≡ noMessage
 unfolding setUpOf
 set-up-idle address receive transmit =
     cond-cases (λ (x : SetUp). x .terminal .message ≡ noMessage) (isSetUp address receive transmit) (λ set. refl) (λ bad. refl)
@@ -44,7 +44,7 @@ module _ (P : Message → Type 0) (none : P noMessage)
       go (Mark t) ok foreign h = h
       go (Word r) ok foreign h =
           let not-own : isOwn (s .setup .own) r ≡ false = rw ok at foreign in
-          rules-hold P none r (staged r) (moved r) (passedOf s (r .time .0) transmit) h
+          rules-hold P none r (staged r) (λ m p between asking. moved r m p between (asking-under-way (m .phase) asking)) (passedOf s (r .time .0) transmit) h
           (λ own. true≢ (sym own ∙ passed-own s (r .time .0) transmit r ∙ not-own))
 
   -- a call

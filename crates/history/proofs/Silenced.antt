@@ -30,7 +30,7 @@ use Rattle.history.specs.Demands.{RefusedSilent, FreshSilent, FreshBegin
 use Rattle.history.proofs.Tests.{true≢, false≢, cond-cases, cond-same, and-right, or-cases}
 use Rattle.history.proofs.Steps.{stepped, refused-stays, run-append}
 use Rattle.history.proofs.Passing.{passed-setup, passed-message}
-use Rattle.history.proofs.Moving.{rules-keep, rules-hold}
+use Rattle.history.proofs.Moving.{rules-keep, asking-under-way, rules-hold}
 use Rattle.history.proofs.Givens.{Given, none, some, answer-cases}
 
 -- ---- the set-up stays
@@ -78,7 +78,7 @@ own-to-all own r above is-own =
 word-to-all : (s : State) (r : WordRecord) → 31 ≤ s .setup .own .address → ToAll (s .message) → ToAll (rules3to6 s r .message)
 unfolding begunOf stagedOf movedOf
 word-to-all s r above h =
-    rules-hold ToAll none-to-all r (λ m under to on. to under) (λ m p between under to on. to under) s h (λ own on. own-to-all (s .setup .own) r above own)
+    rules-hold ToAll none-to-all r (λ m under to on. to under) (λ m p between asking to on. to (asking-under-way (m .phase) asking)) s h (λ own on. own-to-all (s .setup .own) r above own)
 
 event-to-all : (s : State) (e : Event) (transmit : List ℕ) → 31 ≤ s .setup .own .address → ToAll (s .message)
     → ToAll (takenOf (passedOf s (timeOf e) transmit) e .message)

@@ -266,6 +266,10 @@ MomentExactly = (s : State) → MattersExactly s (nextMomentOf (s .message))
 abbrev pub MomentExactlyAfterAnyPast : Type 0
 MomentExactlyAfterAnyPast = (past : Past) → MattersExactly (afterPast past) (momentIn (afterPast past))
 
+-- told-ahead: and that one is still to come: it is later than the last accepted event
+abbrev pub ToldAhead : Type 0
+ToldAhead = (past : Past) (next : Moment) → momentIn (afterPast past) ≡ At next → afterPast past .time .0 < next .0
+
 -- ==== kept-moment: "Store it in the terminal's state and have every event, host call, restart and refusal leave it equal to what document 01 would work
 -- out." (02 e)
 
