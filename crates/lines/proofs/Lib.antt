@@ -1,6 +1,7 @@
 pub mod Waits
 pub mod Texts
 pub mod Losses
+pub mod Spellings
 pub mod Readings
 pub mod Hexadecimals
 pub mod Partings

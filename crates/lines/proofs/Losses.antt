@@ -11,10 +11,11 @@ use borrow.Author.Tests.{leb-true, ltb-true}
 use lib.Seq.{length-take-le, take-append-add, take-append-seam}
 use Rattle.lines.specs.Sinks.{blockBytes, fitsBehind, placeAfter, putAt, blockAfter, goesOut}
 use Rattle.lines.specs.Names.{shownOf, shownName, placeAfterName, blockAfterName, goesOutName}
-use Rattle.lines.specs.Theorems.{NothingLost, NameKept}
+use Rattle.lines.specs.Spells.{lineMost, roomAt, placeAfterLine, blockAfterLine, goesOutBefore}
+use Rattle.lines.specs.Theorems.{NothingLost, LineKept, NameKept}
 
 -- a text that waits behind others
-behind : (block text : List ℕ) (at : ℕ) → at ≤ length block → take (at + length text) (putAt block at text) ≡ take at block ++ text
+pub behind : (block text : List ℕ) (at : ℕ) → at ≤ length block → take (at + length text) (putAt block at text) ≡ take at block ++ text
 behind block text at l =
     let front : length (take at block) ≡ at = length-take-le at block l in
     let rest = text ++ drop (at + length text) block in
@@ -35,6 +36,15 @@ nothing-lost block text at size = by (fitsBehind at (length text)) (ltb (length 
         ap (λ (k : List ℕ). take at block ++ k)
         (ap (λ (k : ℕ). take k (putAt block 0 text)) (sym (zero-add (length text))) ∙ behind block text 0 (omega arith))
     by false false e = append-nil (take at block ++ text)
+
+pub line-kept : LineKept
+unfolding goesOutBefore placeAfterLine blockAfterLine roomAt fitsBehind
+line-kept block text at size short = by (fitsBehind at lineMost) refl
+  where
+    by : (a : Bool) → fitsBehind at lineMost ≡ a
+        → cond a [] (take at block) ++ take (cond a at 0 + length text) (putAt block (cond a at 0) text) ≡ take at block ++ text
+    by true e = behind block text at (omega (arith, size, leb-true (at + lineMost) blockBytes e))
+    by false e = ap (λ (k : List ℕ). take at block ++ k) (behind block text 0 (omega arith))
 
 -- a block keeps its size
 block-size : (block text : List ℕ) (at : ℕ) → length block ≡ blockBytes → length (blockAfter block at text) ≡ blockBytes

@@ -1,4 +1,4 @@
--- Words and numbers as text: the digits that the code looks up and those that `io` gives are the ones of the definitions. Assumes nothing.
+-- Words and numbers as text: the digits that the code adds up and those that `io` gives are the ones of the definitions. Assumes nothing.
 use mathlib.Core.Path.{_≡_, refl, sym, ap, ap₂, subst, _∙_}
 use mathlib.Core.Bool.{Bool, cond}
 use Prim.Native.Nat.{ℕ, zero, suc, _+_, _*_, _-_, _/_, _%_, _^_, _≤_, _<_}
@@ -7,25 +7,22 @@ use native.Mathlib.Omega.{arith}
 use native.Mathlib.Decide.{decLe}
 use mathlib.Core.Logic.{dite}
 use mathlib.Core.List.{List, [], _∷_, _++_}
-use lib.Dec.{eqb}
 use lib.Pow.{pow-add}
-use lib.ListN.{getD, take}
-use borrow.Author.Tests.{lt-ltb, le-ltb, eqb-true}
+use lib.ListN.{take}
+use borrow.Author.Tests.{lt-ltb, le-ltb}
 use Rattle.io.specs.Digits.{glyph, digits, Fewest}
-use Rattle.words.proofs.Truth.{passes, passed}
 use Rattle.lines.specs.Sinks.{digitOf, wordText, decimalIn, decimalText}
 
 -- ---- hexadecimal
 
--- the digits as the code holds them
-abbrev table : List ℕ
-table = 48 ∷ 49 ∷ 50 ∷ 51 ∷ 52 ∷ 53 ∷ 54 ∷ 55 ∷ 56 ∷ 57 ∷ 65 ∷ 66 ∷ 67 ∷ 68 ∷ 69 ∷ 70 ∷ []
+-- the sum that the code makes, below ten and above
+pub digit-low : (n : ℕ) → n < 10 → 48 + n ≡ digitOf n
+unfolding digitOf
+digit-low n l = rw (lt-ltb n 10 l)
 
-pub digit-found : (n : ℕ) → getD table (n % 16) 0 ≡ digitOf (n % 16)
-unfolding digitOf passes
-digit-found n =
-    eqb-true (getD table (n % 16) 0) (digitOf (n % 16))
-    (passed 16 (λ (i : ℕ). eqb (getD table i 0) (digitOf i)) refl (n % 16) (omega arith))
+pub digit-high : (n : ℕ) → 10 ≤ n → 55 + n ≡ digitOf n
+unfolding digitOf
+digit-high n l = rw (le-ltb n 10 l)
 
 pub word-spelt : (word a b c d : ℕ) → a ≡ digitOf (word / 2 ^ 12 % 16) → b ≡ digitOf (word / 2 ^ 8 % 16) → c ≡ digitOf (word / 2 ^ 4 % 16)
     → d ≡ digitOf (word % 16) → a ∷ b ∷ c ∷ d ∷ [] ≡ wordText word
@@ -43,7 +40,7 @@ ten-power zero = omega arith
 ten-power (suc k) = omega (arith, pow-suc 10 k, ten-power k)
 
 -- the fewest digits that hold a number
-decimal-in : (most k n : ℕ) → k ≤ most → Fewest 10 1 n k → digits 10 k n ≡ decimalIn most n
+pub decimal-in : (most k n : ℕ) → k ≤ most → Fewest 10 1 n k → digits 10 k n ≡ decimalIn most n
 unfolding decimalIn
 decimal-in most zero n l f = absurd (omega (arith, f .0))
 decimal-in zero (suc k) n l f = absurd (omega (arith, l))

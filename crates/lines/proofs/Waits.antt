@@ -13,6 +13,7 @@ use lib.Seq.{set-split, take-all, take-length, drop-drop}
 use borrow.Author.Tests.{leb-true, le-leb, lt-leb, lt-ltb, le-ltb}
 use borrow.Rule.Slice.PartMut.{putMid}
 use Rattle.lines.specs.Sinks.{blockBytes, fitsBehind, placeAfter, putAt, blockAfter}
+use Rattle.lines.specs.Spells.{roomAt}
 
 -- ---- whether it fits
 
@@ -38,6 +39,17 @@ module _ (at count : ℕ) where
 
   pub fits-none : blockBytes < at → false ≡ fitsBehind at count
   fits-none l = sym (fits-above (omega arith))
+
+-- ---- room for so many bytes
+
+module _ (at count : ℕ) where
+  pub room-behind : fitsBehind at count ≡ true → at ≡ roomAt at count
+  unfolding roomAt
+  room-behind e = rw e
+
+  pub room-front : fitsBehind at count ≡ false → 0 ≡ roomAt at count
+  unfolding roomAt
+  room-front e = rw e
 
 -- ---- the place; r is the one that the code gives
 

@@ -1,5 +1,5 @@
 -- What is proved of a sink, of the text of a number, and of names. Each is proved in proofs/ under the name at its side. Assumes nothing.
-use Prim.Native.Nat.{ℕ, _^_, _<_}
+use Prim.Native.Nat.{ℕ, _^_, _≤_, _<_}
 use mathlib.Core.Path.{_≡_}
 use mathlib.Core.Bool.{true, not, _&&_}
 use mathlib.Core.List.{List, _++_}
@@ -7,6 +7,7 @@ use lib.Dec.{leb, eqb}
 use lib.ListN.{length, take}
 use Rattle.lines.specs.declared.numbers.Number.the-variants.{Is}
 use Rattle.lines.specs.Sinks.{blockBytes, placeAfter, blockAfter, goesOut, wordText, decimalText}
+use Rattle.lines.specs.Spells.{lineMost, placeAfterLine, blockAfterLine, goesOutBefore}
 use Rattle.lines.specs.Numbers.{numberRead, hexadecimalRead}
 use Rattle.lines.specs.Names.{sameText, shownOf, shownName, placeAfterName, blockAfterName, goesOutName}
 
@@ -15,6 +16,12 @@ abbrev pub NothingLost : Type 0
 NothingLost =
     (block text : List ℕ) (at : ℕ) → length block ≡ blockBytes
     → goesOut block at text ++ take (placeAfter at (length text)) (blockAfter block at text) ≡ take at block ++ text
+
+-- The same of a line for which room is asked once: line-kept
+abbrev pub LineKept : Type 0
+LineKept =
+    (block text : List ℕ) (at : ℕ) → length block ≡ blockBytes → length text ≤ lineMost
+    → goesOutBefore block at ++ take (placeAfterLine at text) (blockAfterLine block at text) ≡ take at block ++ text
 
 -- The same of a name, with the bytes that are shown of it: name-kept
 abbrev pub NameKept : Type 0

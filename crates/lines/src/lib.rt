@@ -6,6 +6,7 @@ mod names;
 mod numbers;
 mod parts;
 mod sinks;
+mod spells;
 
 pub use complaints::begin_complaint;
 pub use complaints::complain;
@@ -23,3 +24,9 @@ pub use parts::between;
 pub use parts::part_end;
 pub use sinks::Block;
 pub use sinks::Sink;
+pub use spells::LINE_MOST;
+pub use spells::spell_byte;
+pub use spells::spell_decimal;
+pub use spells::spell_number;
+pub use spells::spell_text;
+pub use spells::spell_word;

@@ -2,19 +2,20 @@
 ghost use mathlib.Core.Path.{_≡_};
 ghost use mathlib.Core.Bool.{true, false};
 ghost use mathlib.Core.List.{[], _∷_};
-ghost use Prim.Native.Nat.{_<_, _≤_, _+_, _%_};
+ghost use Prim.Native.Nat.{_≤_, _+_};
 ghost use lib.ListN.{length, take};
-ghost use Rattle.lines.specs.Sinks.{blockBytes, fitsBehind, placeAfter, putAt, blockAfter, digitOf, wordText, decimalText};
+ghost use Rattle.lines.specs.Sinks.{blockBytes, fitsBehind, placeAfter, putAt, blockAfter, wordText, decimalText};
+ghost use Rattle.lines.specs.Spells.{roomAt};
 ghost use Rattle.lines.specs.Names.{placeAfterName, blockAfterName, placeAfterNamed, blockAfterNamed};
 use crate::names::shown;
+use crate::spells::digit;
+use crate::spells::spell_byte;
+use crate::spells::spell_text;
 
 // The bytes that wait, from the front on.
 pub type Block = [u8; 65536];
 
 const BLOCK_BYTES: usize = 65536;
-
-// "hexadecimal is written in capitals"
-const DIGITS: [u8; 16] = *b"0123456789ABCDEF";
 
 // Where bytes go, how many wait in the block, and whether a write has failed: then the others are dropped.
 pub struct Sink {
@@ -74,14 +75,25 @@ impl Sink {
         let mut next = self;
         let at = self.at;
         if at < BLOCK_BYTES {
-            store(block, at, byte);
-            next.at = at + 1;
+            next.at = spell_byte(block, at, byte);
             return next;
         }
         next = self.flush(block);
-        store(block, 0, byte);
-        next.at = 1;
+        next.at = spell_byte(block, 0, byte);
         next
+    }
+
+    // Gives the sink with room for so many bytes, at most a block: where they do not fit behind what waits, that is written first.
+    // Tables: block is only read. Refusals: none; `failed` says whether a write has failed.
+    pub fn with_room(self, block: &Block, count: usize) -> Sink
+        ensures place { λ r. ⌜ r .at ≡ roomAt (self .at) count ⌝ }
+        ensures file { λ r. ⌜ r .fd ≡ self .fd ⌝ }
+        ensures stays { λ r. ⌜ (self .failed ≡ true → r .failed ≡ true) ⌝ }
+    {
+        if fits(self.at, count) {
+            return self;
+        }
+        self.flush(block)
     }
 
     // Puts a text behind what waits, where it fits.
@@ -92,9 +104,8 @@ impl Sink {
         ensures block { λ _. ⌜ now (block .exit) ≡ putAt (now (block .entry)) (self .at) (now (text .entry)) ⌝ }
         ensures same { λ r. ⌜ r .failed ≡ self .failed ⌝ }
     {
-        copy_to(block, self.at, text);
         let mut next = self;
-        next.at = self.at + text.len();
+        next.at = spell_text(block, self.at, text);
         next
     }
 
@@ -205,27 +216,4 @@ fn front(block: &[u8], count: usize) -> &[u8]
         return &block[0..count];
     }
     block
-}
-
-// Stores a byte at a place of the block.
-fn store(block: &mut [u8], at: usize, byte: u8)
-    requires { ⌜ at < length (now block) ⌝ }
-    ensures block { λ _. ⌜ now (block .exit) ≡ putAt (now (block .entry)) at (byte ∷ []) ⌝ }
-{
-    block[at] = byte;
-}
-
-// Copies a text to a place of the block.
-fn copy_to(block: &mut [u8], at: usize, text: &[u8])
-    requires { ⌜ at + length (now text) ≤ length (now block) ⌝ }
-    ensures block { λ _. ⌜ now (block .exit) ≡ putAt (now (block .entry)) at (now (text .entry)) ⌝ }
-{
-    bytes::copy(text, &mut block[at..]);
-}
-
-// Gives the lowest four bits of a word as a digit.
-fn digit(word: u16) -> u8
-    ensures digit { λ r. ⌜ r ≡ digitOf (word % 16) ⌝ }
-{
-    DIGITS[(word % 16) as usize]
 }

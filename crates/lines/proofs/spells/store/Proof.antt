@@ -1,8 +1,8 @@
 -- A byte that is stored is a text of one byte at that place. Assumes nothing.
 use borrow.Author.Needs.{needs}
 use Rattle.lines.proofs.Waits.{stored}
-use Rattle.lines.proofs.sinks.store.Statement.{statement}
-use Rattle.lines.proofs.sinks.store.Tie as tie
+use Rattle.lines.proofs.spells.store.Statement.{statement}
+use Rattle.lines.proofs.spells.store.Tie as tie
 
 slice-write-block : tie.Need-slice-write-block
 slice-write-block c = search needs

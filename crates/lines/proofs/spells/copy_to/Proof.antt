@@ -1,8 +1,8 @@
 -- The law of the part of the block that is copied to. Assumes nothing.
 use borrow.Author.Needs.{needs}
 use Rattle.lines.proofs.Waits.{copied}
-use Rattle.lines.proofs.sinks.copy_to.Statement.{statement}
-use Rattle.lines.proofs.sinks.copy_to.Tie as tie
+use Rattle.lines.proofs.spells.copy_to.Statement.{statement}
+use Rattle.lines.proofs.spells.copy_to.Tie as tie
 
 sub-copy : tie.Need-sub-copy
 sub-copy c = search needs

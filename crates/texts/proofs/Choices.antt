@@ -1,0 +1,144 @@
+-- The texts that a test or a number chooses, by what the code has at that place. Assumes nothing.
+use mathlib.Core.Path.{_≡_, refl, sym, ap, _∙_}
+use mathlib.Core.Bool.{Bool, true, false, cond, not, true≢false}
+use Prim.Native.Nat.{ℕ, suc, _+_, _≤_}
+use native.Mathlib.Omega.{arith}
+use mathlib.Core.List.{List, [], _∷_, _++_}
+use lib.Dec.{eqb}
+use lib.ListN.{length, take, drop, take-append-drop, List·getD-eq-default}
+use borrow.Author.Tests.{eq-eqb, ne-eqb, leb-true}
+use Rattle.words.specs.Words.{addressOf, subaddressOf, countOf, wordsOf, isTransmit, isBroadcast, isMode, parityOf}
+use Rattle.lines.specs.Sinks.{blockBytes, fitsBehind, putAt}
+use Rattle.lines.specs.Spells.{textOf, numberText, Spelled, lineMost, roomAt, placeAfterLine, blockAfterLine}
+use Rattle.lines.proofs.Spellings.{put-length, spelled-as}
+use Rattle.salvage.specs.Machine.{isChanged}
+use Rattle.salvage.specs.declared.salvages.First.{First}
+use Rattle.salvage.specs.declared.salvages.Run.{Run}
+use Rattle.texts.specs.Saves.{runText, runLine, firstText}
+use Rattle.texts.specs.Entries.{lineOf, busText, verdictNames, verdictName, addressText, directionText, kindText, flawMark, flawText, flawsText, addedText}
+
+module _ (bus : ℕ) where
+  pub bus-a : bus ≡ 0 → textOf " A" ≡ busText bus
+  unfolding busText
+  bus-a e = rw (eq-eqb bus 0 e)
+
+  pub bus-b : (bus ≡ 0 → ⊥) → textOf " B" ≡ busText bus
+  unfolding busText
+  bus-b e = rw (ne-eqb bus 0 e)
+
+-- one number further
+pub past : (k n : ℕ) → k ≤ n → (n ≡ k → ⊥) → suc k ≤ n
+past k n l e = omega (arith, l, e)
+
+pub unnamed : (number : ℕ) → 13 ≤ number → textOf " unnamed" ≡ verdictName number
+unfolding verdictName
+unnamed number l = sym (List·getD-eq-default verdictNames (textOf " unnamed") {n = number} l)
+
+module _ (command : ℕ) where
+  pub address-all : isBroadcast command ≡ true → textOf "all" ≡ addressText command
+  unfolding addressText
+  address-all e = rw e
+
+  pub address-one : isBroadcast command ≡ false → numberText (textOf "rt") (addressOf command) ≡ addressText command
+  unfolding addressText
+  address-one e = rw e
+
+  pub direction-transmit : isTransmit command ≡ true → textOf ",transmit" ≡ directionText command
+  unfolding directionText
+  direction-transmit e = rw e
+
+  pub direction-receive : isTransmit command ≡ false → textOf ",receive" ≡ directionText command
+  unfolding directionText
+  direction-receive e = rw e
+
+  pub kind-mode : isMode command ≡ true → numberText (textOf ",mode,code") (countOf command) ≡ kindText command
+  unfolding kindText
+  kind-mode e = rw e
+
+  pub kind-words : isMode command ≡ false
+      → numberText (textOf ",sa") (subaddressOf command) ++ numberText (textOf ",count") (wordsOf command) ≡ kindText command
+  unfolding kindText
+  kind-words e = rw e
+
+-- a number that is another one in other words
+pub number-as : (text : List ℕ) {block last : List ℕ} {at after number other : ℕ} → number ≡ other
+    → Spelled block at (numberText text number) last after → Spelled block at (numberText text other) last after
+number-as text e spelled = spelled-as (ap (numberText text) e) spelled
+
+module _ (more : Bool) where
+  pub mark-comma : more ≡ true → 44 ≡ flawMark more
+  unfolding flawMark
+  mark-comma e = rw e
+
+  pub mark-equals : more ≡ false → 61 ≡ flawMark more
+  unfolding flawMark
+  mark-equals e = rw e
+
+module _ (added : Bool) (text : List ℕ) where
+  pub added-text : added ≡ true → text ≡ addedText added text
+  added-text e = rw e
+
+  pub added-none : added ≡ false → [] ≡ addedText added text
+  added-none e = rw e
+
+pub parity-flaw : (parity bit word : ℕ) (manchester bits sync : Bool) → bit ≡ parityOf word
+    → flawsText (not (eqb parity bit)) manchester bits sync ≡ flawsText (not (eqb parity (parityOf word))) manchester bits sync
+parity-flaw parity bit word manchester bits sync e = ap (λ (b : ℕ). flawsText (not (eqb parity b)) manchester bits sync) e
+
+module _ (more : Bool) (name : List ℕ) where
+  pub flaw-none : (bad : Bool) → not bad ≡ true → [] ≡ flawText more bad name
+  unfolding flawText
+  flaw-none true e = absurd (true≢false (sym e))
+  flaw-none false e = refl
+
+  pub flaw-some : (bad : Bool) (mark : ℕ) → not bad ≡ false → mark ≡ flawMark more → mark ∷ name ≡ flawText more bad name
+  unfolding flawText
+  flaw-some true mark e q = ap (λ (m : ℕ). m ∷ name) q
+  flaw-some false mark e q = absurd (true≢false e)
+
+-- nothing more was spelled
+pub spelled-none : {block text last : List ℕ} {at after : ℕ} → Spelled block at text last after → Spelled last after [] last after
+spelled-none {block = block} {text = text} {last = last} {at = at} {after = after} spelled =
+    let size : length last ≡ length block = ap length (spelled .bytes) ∙ put-length block text at (spelled .fits) in
+    record {
+      place = omega arith;
+      bytes = sym (take-append-drop after last) ∙ ap (λ (n : ℕ). take after last ++ drop n last) {x = after} {y = after + 0} (omega arith);
+      fits = omega (arith, size, spelled .place, spelled .fits);
+    }
+
+module _ (run : Run) where
+  pub run-none : run .length ≡ 0 → [] ≡ runLine run
+  unfolding runLine
+  run-none e = rw (eq-eqb (run .length) 0 e)
+
+  pub run-some : (run .length ≡ 0 → ⊥) → lineOf (runText run) ≡ runLine run
+  unfolding runLine
+  run-some e = rw (ne-eqb (run .length) 0 e)
+
+module _ (first : First) where
+  pub first-changed : isChanged first ≡ true → textOf "changed" ≡ firstText first
+  unfolding firstText
+  first-changed e = rw e
+
+  pub first-kept : isChanged first ≡ false → textOf "kept" ≡ firstText first
+  unfolding firstText
+  first-kept e = rw e
+
+-- ---- a line
+
+-- room for the longest line
+pub room-line : (at room : ℕ) → room ≡ roomAt at lineMost → room + lineMost ≤ blockBytes
+unfolding roomAt fitsBehind
+room-line at room q = omega (arith, q, by (fitsBehind at lineMost) refl)
+  where
+    by : (b : Bool) → fitsBehind at lineMost ≡ b → cond b at 0 + lineMost ≤ blockBytes
+    by true e = leb-true (at + lineMost) blockBytes e
+    by false e = omega arith
+
+pub line-place : (at room after : ℕ) (block text last : List ℕ) → room ≡ roomAt at lineMost → Spelled block room text last after → after ≡ placeAfterLine at text
+unfolding placeAfterLine
+line-place at room after block text last e spelled = spelled .place ∙ ap (λ (n : ℕ). n + length text) e
+
+pub line-block : (at room after : ℕ) (block text last : List ℕ) → room ≡ roomAt at lineMost → Spelled block room text last after → last ≡ blockAfterLine block at text
+unfolding blockAfterLine
+line-block at room after block text last e spelled = spelled .bytes ∙ ap (λ (n : ℕ). putAt block n text) e
