@@ -2,7 +2,6 @@
 // Refusals: 8 of a file, 3, 4, 5, 6 of a record, in the line that closes the file and in words on standard error, as is what cannot be opened or read.
 mod complaints;
 mod dumps;
-mod entries;
 mod options;
 mod outputs;
 mod readers;

@@ -8,27 +8,22 @@ use lines::is_dash;
 use lines::is_same;
 use lines::read_decimal;
 use std::num::wrapping_add_usize;
+use texts::Wanted;
 use words::CommandWord;
 
 pub(crate) const BUS_A: u8 = 0;
 
 pub(crate) const BUS_B: u8 = 1;
 
-// The options, each with whether it was given; then the places of the first argument, of the one behind the options and of the first file.
+// What is asked for, and whether the times of it were given; then the places of the first argument, of the one behind the options and of the first file.
 pub(crate) struct Options {
-    pub(crate) has_bus: bool,
-    pub(crate) bus: u8,
-    pub(crate) has_address: bool,
-    pub(crate) address: u64,
-    pub(crate) has_from: bool,
-    pub(crate) from: u64,
-    pub(crate) has_to: bool,
-    pub(crate) to: u64,
-    pub(crate) only_bad: bool,
-    pub(crate) in_words: bool,
+    pub(crate) wanted: Wanted,
     pub(crate) begin: usize,
     pub(crate) end: usize,
     pub(crate) first: usize,
+    pub(crate) has_from: bool,
+    pub(crate) has_to: bool,
+    pub(crate) in_words: bool,
 }
 
 // What a call asks for.
@@ -165,20 +160,23 @@ fn is_name(place: usize) -> bool {
 impl Options {
     // Gives the options before any argument, the first of which stands at a place: all is shown.
     fn start(first: usize) -> Options {
-        Options {
-            has_bus: false,
+        let all = Wanted {
+            from: 0,
+            to: u64::MAX,
+            address: 0,
             bus: BUS_A,
             has_address: false,
-            address: 0,
-            has_from: false,
-            from: 0,
-            has_to: false,
-            to: u64::MAX,
+            has_bus: false,
             only_bad: false,
-            in_words: false,
+        };
+        Options {
+            wanted: all,
             begin: first,
             end: first,
             first,
+            has_from: false,
+            has_to: false,
+            in_words: false,
         }
     }
 
@@ -202,19 +200,19 @@ impl Options {
     }
 
     fn take_bus(self) -> Step {
-        if self.has_bus {
+        if self.wanted.has_bus {
             return refuse_again(self.end, b"-b");
         }
         let mut text = [0u8; NAME_BYTES];
         let length = os::arg(self.value_place(), &mut text);
         let mut next = self.after(2);
-        next.has_bus = true;
+        next.wanted.has_bus = true;
         if is_same(&text[..length], b"A") {
-            next.bus = BUS_A;
+            next.wanted.bus = BUS_A;
             return Step::More(next);
         }
         if is_same(&text[..length], b"B") {
-            next.bus = BUS_B;
+            next.wanted.bus = BUS_B;
             return Step::More(next);
         }
         refuse_value(self.value_place(), b"-b wants A or B", &text[..length]);
@@ -222,7 +220,7 @@ impl Options {
     }
 
     fn take_address(self) -> Step {
-        if self.has_address {
+        if self.wanted.has_address {
             return refuse_again(self.end, b"-a");
         }
         let asked = number_at(
@@ -234,8 +232,8 @@ impl Options {
             return Step::Wrong;
         };
         let mut next = self.after(2);
-        next.has_address = true;
-        next.address = address;
+        next.wanted.has_address = true;
+        next.wanted.address = address;
         Step::More(next)
     }
 
@@ -252,7 +250,7 @@ impl Options {
         };
         let mut next = self.after(2);
         next.has_from = true;
-        next.from = from;
+        next.wanted.from = from;
         Step::More(next)
     }
 
@@ -269,16 +267,16 @@ impl Options {
         };
         let mut next = self.after(2);
         next.has_to = true;
-        next.to = to;
+        next.wanted.to = to;
         Step::More(next)
     }
 
     fn take_only_bad(self) -> Step {
-        if self.only_bad {
+        if self.wanted.only_bad {
             return refuse_again(self.end, b"-e");
         }
         let mut next = self.after(1);
-        next.only_bad = true;
+        next.wanted.only_bad = true;
         Step::More(next)
     }
 
@@ -335,16 +333,6 @@ impl Options {
             place += 1;
         }
         Call::Dump(self)
-    }
-
-    // Says whether an entry of that bus and time is asked for.
-    pub(crate) fn shows(self, bus: u8, time: u64) -> bool {
-        (self.from <= time) & (time <= self.to) & (!self.has_bus | (bus == self.bus))
-    }
-
-    // Says whether a message with that command word is asked for.
-    pub(crate) fn shows_command(self, command: CommandWord) -> bool {
-        !self.has_address | (command.address() as u64 == self.address)
     }
 }
 

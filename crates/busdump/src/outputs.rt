@@ -1,4 +1,4 @@
-// The remarks that the program writes, and the names in them (02 a; docs/LINES.md). Refusals: none.
+// The line that opens a log, and the names in it (02 a; docs/LINES.md). Refusals: none.
 use lines::Block;
 use lines::NAME_BYTES;
 use lines::Sink;
@@ -26,29 +26,4 @@ pub(crate) fn put_title(
         place += 1;
     }
     after.put_named(block, b"", name)
-}
-
-// Puts "# end entries=E records=R".
-pub(crate) fn put_end(sink: Sink, block: &mut Block, entries: u64, records: u64) -> Sink {
-    let counted = sink.put_number(block, b"# end entries=", entries);
-    counted
-        .put_number(block, b" records=", records)
-        .put(block, b'\n')
-}
-
-// Puts "# refused N record=K byte=B entries=E".
-pub(crate) fn put_refused(
-    sink: Sink,
-    block: &mut Block,
-    refusal: u8,
-    record: u64,
-    byte: u64,
-    entries: u64,
-) -> Sink {
-    let told = sink.put_number(block, b"# refused ", refusal as u64);
-    let placed = told.put_number(block, b" record=", record);
-    let found = placed.put_number(block, b" byte=", byte);
-    found
-        .put_number(block, b" entries=", entries)
-        .put(block, b'\n')
 }

@@ -8,7 +8,6 @@ use crate::dumps::Ending;
 use crate::options::BUS_A;
 use crate::options::BUS_B;
 use crate::options::Options;
-use crate::outputs::put_refused;
 use crate::outputs::put_title;
 use crate::readers::Begun;
 use crate::readers::Reader;
@@ -24,6 +23,7 @@ use lines::complain;
 use lines::is_dash;
 use lines::remark;
 use status::Status;
+use texts::put_log_refused;
 use words::Refusal;
 
 // A file that is closed: where the next one's lines go, and whether all of it was read and listed.
@@ -62,7 +62,7 @@ fn end_refused(
     chunk: &Block,
     count: usize,
 ) -> Closed {
-    let ended = put_refused(listed, listing, refusal.0, 0, 0, 0);
+    let ended = put_log_refused(listed, listing, refusal.0, 0, 0, 0);
     let told = ended.flush_told(listing, &PROGRAM);
     explain_beginning(name, refusal.0, between(chunk, 0, count));
     Closed::badly(told)

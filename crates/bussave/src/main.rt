@@ -2,7 +2,6 @@
 // and writes the kept records to CLEAN, a file that it makes. Thin over `salvage`: arguments, files, bytes out.
 // Refusals: none; any bytes are taken. What cannot be opened, read, made or written is said on standard error.
 mod complaints;
-mod outputs;
 mod runs;
 mod savings;
 mod strays;

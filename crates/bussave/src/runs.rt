@@ -1,8 +1,6 @@
 // One run of the program: files opened, saved and closed (02 c). The clean file is made once the damaged one was read from, so that one
 // that cannot be read leaves none; it is never a file that exists. Refusals: none.
 use crate::complaints::PROGRAM;
-use crate::outputs::put_end;
-use crate::outputs::put_run;
 use crate::savings::ROOM_BYTES;
 use crate::savings::Saving;
 use crate::strays::Strays;
@@ -21,6 +19,8 @@ use salvage::Ended;
 use salvage::Salvage;
 use salvage::Totals;
 use status::Status;
+use texts::put_run;
+use texts::put_save_end;
 
 // What stopped a saving before the end of the file.
 enum Fault {
@@ -118,7 +118,7 @@ impl Saving {
         let sink = self.clean;
         match close_clean(sink, saved, totals.records) {
             Closed::Whole => {
-                let ended = put_end(after, listing, totals).flush_told(listing, &PROGRAM);
+                let ended = put_save_end(after, listing, totals).flush_told(listing, &PROGRAM);
                 if (totals.records == 0) & (totals.bytes > 1) {
                     remark(&PROGRAM, damaged, b": no record in it could be kept");
                 }

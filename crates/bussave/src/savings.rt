@@ -5,12 +5,12 @@ ghost use mathlib.Core.Path.{_≡_};
 ghost use Prim.Native.Nat.{_≤_};
 ghost use lib.ListN.{length};
 ghost use Rattle.salvage.specs.Machine.{askedOf, isSettledOf};
-use crate::outputs::put_run;
 use crate::strays::Strays;
 use lines::Block;
 use lines::Sink;
 use salvage::Salvage;
 use std::num::wrapping_add_u64;
+use texts::put_run;
 
 // A chunk, and before it the bytes of a record that wait.
 pub(crate) const ROOM_BYTES: usize = 65552;

@@ -8,12 +8,14 @@ use lib.Dec.{eqb}
 use lib.ListN.{length, take, drop, take-append-drop, List·getD-eq-default}
 use borrow.Author.Tests.{eq-eqb, ne-eqb, leb-true}
 use Rattle.words.specs.Words.{addressOf, subaddressOf, countOf, wordsOf, isTransmit, isBroadcast, isMode, parityOf}
-use Rattle.lines.specs.Sinks.{blockBytes, fitsBehind, putAt}
+use Rattle.lines.specs.Sinks.{blockBytes, fitsBehind, putAt, wordText}
 use Rattle.lines.specs.Spells.{textOf, numberText, Spelled, lineMost, roomAt, placeAfterLine, blockAfterLine}
 use Rattle.lines.proofs.Spellings.{put-length, spelled-as}
 use Rattle.salvage.specs.Machine.{isChanged}
 use Rattle.salvage.specs.declared.salvages.First.{First}
 use Rattle.salvage.specs.declared.salvages.Run.{Run}
+use Rattle.schedule.specs.declared.messages.Message.{Message}
+use Rattle.texts.specs.Schedules.{wordsText}
 use Rattle.texts.specs.Saves.{runText, runLine, firstText}
 use Rattle.texts.specs.Entries.{lineOf, busText, verdictNames, verdictName, addressText, directionText, kindText, flawMark, flawText, flawsText, addedText}
 
@@ -123,6 +125,15 @@ module _ (first : First) where
   pub first-kept : isChanged first ≡ false → textOf "kept" ≡ firstText first
   unfolding firstText
   first-kept e = rw e
+
+module _ (between : ℕ) (m : Message) where
+  pub words-one : m .commands ≡ 1 → wordText (m .first .0) ≡ wordsText between m
+  unfolding wordsText
+  words-one e = rw (eq-eqb (m .commands) 1 e)
+
+  pub words-two : (m .commands ≡ 1 → ⊥) → wordText (m .first .0) ++ (between ∷ wordText (m .second .0)) ≡ wordsText between m
+  unfolding wordsText
+  words-two e = rw (ne-eqb (m .commands) 1 e)
 
 -- ---- a line
 

@@ -2,3 +2,4 @@
 pub mod Entries
 pub mod Logs
 pub mod Saves
+pub mod Schedules

@@ -4,6 +4,7 @@ mod closings;
 mod entries;
 mod flaws;
 mod puts;
+mod schedules;
 mod shows;
 
 pub use closings::put_log_end;
@@ -11,4 +12,8 @@ pub use closings::put_log_refused;
 pub use closings::put_run;
 pub use closings::put_save_end;
 pub use puts::put_entry;
+pub use schedules::Closing;
+pub use schedules::put_closing;
+pub use schedules::put_frame;
+pub use schedules::put_slot;
 pub use shows::Wanted;
