@@ -1,12 +1,12 @@
 -- The two halves agree: agrees, agrees-illegal, agrees-between, agrees-broadcast, agrees-broadcast-between. Assumes nothing.
 use mathlib.Core.Path.{_≡_, refl, sym, ap, subst, _∙_}
-use Prim.Native.Nat.{ℕ, _+_, _*_, _≤_}
+use Prim.Native.Nat.{ℕ, _+_, _*_, _^_, _≤_}
 use mathlib.Core.Bool.{true, false, cond}
 use mathlib.Core.List.{List, [], _∷_, _++_, append-nil}
 use native.Mathlib.Omega.{arith}
 use lib.Dec.{eqb}
 use lib.ListN.{length, take, length-take}
-use borrow.Author.Tests.{le-leb, le-ltb, lt-ltb, ltb-true, eqb-true}
+use borrow.Author.Tests.{le-ltb, ltb-true, eqb-true}
 use Rattle.words.specs.Words.{onClock, sinceOf, wordTicks, dueDistance, addressOf, isBroadcast}
 use Rattle.words.specs.Refusals.{notRefused}
 use Rattle.words.specs.declared.times.Moment.{Moment}
@@ -30,6 +30,7 @@ use Rattle.verdict.specs.declared.plans.Plan.{Plan}
 use Rattle.verdict.specs.declared.judges.Finding.{Finding}
 use Rattle.verdict.specs.declared.judges.Judged.the-variants as judged
 use Rattle.verdict.proofs.Findings.{verdictOver, verdict-of}
+use Rattle.verdict.proofs.Refusals.{plan-accepted}
 use Rattle.agreement.specs.Agreement.{statusHeard, answerHeard, planFor, Accepted, shownBy, JudgedAs, Agrees, AgreesAfterAnyPast, AgreesIllegal, planBetween, Sent, AgreesBetween, AgreesBetweenAfterAnyPast, AgreesBroadcast, AgreesBroadcastBetween}
 use Rattle.agreement.proofs.Replies.{legal-single, reply-sends, receive-alone}
 use Rattle.agreement.proofs.Heard.{status-verdict, answer-verdict, answer-taken}
@@ -52,11 +53,9 @@ module _ (s : State) (sound : Sound s) (t : ℕ) (due : isDue (s .message) t ≡
   -- a plan that is possible, on its bus, up to a Q on the clock, is not refused
   plan-taken : (plan : Plan) → plan .bus ≡ s .message .bus → isPossible plan ≡ true → onClock (plan .until .0) ≡ true → plan .last .0 ≤ plan .until .0
       → planRefusal plan ≡ notRefused
-  unfolding planRefusal
   plan-taken plan own possible clock later =
       let waiting = waits in
-      let before : onClock (plan .last .0) ≡ true = omega (arith, lt-ltb, ltb-true) in
-      rw (possible, le-leb (plan .bus) 1 (omega (arith, own, waiting .bus)), before, clock, le-leb (plan .last .0) (plan .until .0) later)
+      plan-accepted plan possible (omega (arith, own, waiting .bus)) later (ltb-true (plan .until .0) (2 ^ 48) clock)
 
   single-taken : (until : Moment) → isSingle (s .message .command .0) ≡ true → onClock (until .0) ≡ true → s .message .last .0 ≤ until .0
       → planRefusal (planFor s until) ≡ notRefused

@@ -1,6 +1,6 @@
 -- The facts of the words of an answer as they are heard. Assumes nothing.
 use mathlib.Core.Path.{_≡_, refl, sym, ap, subst, _∙_}
-use Prim.Native.Nat.{ℕ, zero, suc, _+_, _-_, _*_, _≤_, _<_}
+use Prim.Native.Nat.{ℕ, zero, suc, _+_, _-_, _*_, _^_, _≤_, _<_}
 use mathlib.Core.Bool.{Bool, true, cond, _&&_, _||_}
 use mathlib.Core.List.{List, [], _∷_, _++_, append-nil}
 use native.Mathlib.Omega.{arith}
@@ -9,8 +9,9 @@ use lib.ListN.{length, replicate}
 use borrow.Author.Tests.{lt-ltb, ltb-true, le-ltb, le-leb, leb-true, eq-eqb, eqb-true}
 use Rattle.words.specs.Words.{onClock, wordTicks, dueDistance, addressOf, parityOf, isSpaced, isValid, commandSync, dataSync}
 use Rattle.words.specs.Refusals.{notRefused}
-use Rattle.records.specs.Records.{inRange}
+use Rattle.records.specs.Records.{lastBus, inRange}
 use Rattle.records.specs.declared.forms.WordRecord.{WordRecord}
+use Rattle.records.proofs.Ranges.{ranged-in}
 use Rattle.words.proofs.Oddness.{parity-one}
 use Rattle.words.proofs.Inverse.{gaps}
 use Rattle.history.proofs.Tests.{cond-cases, and-left, and-right, or-cases}
@@ -161,22 +162,23 @@ valid-range r valid =
       omega (arith, ltb-true (r .parity) 2 (and-right clean _ three)),
     )
 
-module _ (plan : Plan) (bus-range : plan .bus ≤ 1) (clock : onClock (plan .until .0) ≡ true) where
+module _ (plan : Plan) (bus-range : plan .bus ≤ lastBus) (clock : onClock (plan .until .0) ≡ true) where
   -- a valid word after another and not after Q
   pub word-taken : (before : ℕ) (r : WordRecord) → isValid (r .sync) (r .faults) (r .word) (r .parity) ≡ true → r .bus ≡ plan .bus → before < r .time .0
       → r .time .0 ≤ plan .until .0
-      → (inRange r ≡ true) × (recordRefusal plan before r ≡ notRefused)
+      → (inRange lastBus r ≡ true) × (recordRefusal plan before r ≡ notRefused)
   unfolding recordRefusal
   word-taken before r valid own later in-time =
       let range = valid-range r valid in
-      let on-clock : onClock (r .time .0) ≡ true = omega (arith, lt-ltb, ltb-true) in (
-        rw (
-          on-clock,
-          le-leb (r .bus) 1 (omega (arith, own)),
-          le-leb (r .sync) 2 (omega (arith, range .0)),
-          le-leb (r .faults) 3 (omega (arith, range .1)),
-          le-leb (r .parity) 1 (range .2),
-        ),
+      let on-clock = ltb-true (plan .until .0) (2 ^ 48) clock in (
+        ranged-in lastBus r
+            (record {
+              time = omega arith;
+              bus = omega (arith, own);
+              sync = omega (arith, range .0);
+              faults = omega (arith, range .1);
+              parity = range .2;
+            }),
         rw (eq-eqb (r .bus) (plan .bus) own, lt-ltb before (r .time .0) later, le-leb (r .time .0) (plan .until .0) in-time),
       )
 

@@ -9,6 +9,7 @@ use lib.ListN.{replicate}
 use borrow.Author.Tests.{not-true}
 use Rattle.words.specs.Words.{onClock, addressOf, wordsOf, isTransmit, isMode, isBroadcast}
 use Rattle.words.specs.declared.times.Moment.{Moment}
+use Rattle.records.specs.Records.{lastBus}
 use Rattle.records.specs.declared.forms.WordRecord.{WordRecord}
 use Rattle.terminal.specs.declared.states.Terminal.{Terminal as State}
 use Rattle.history.proofs.Tests.{and-left, and-right, or-false}
@@ -102,7 +103,7 @@ module _ (s : State) (second status : WordRecord) (ds : List WordRecord) (sent :
   sent-later = omega (arith, sent-last, words-later (s .message .bus) ds (status .time .0) (sent .spaced), sent .answered .not-early)
 
   -- its words are taken, where those behind are
-  pub sent-taken : (until : Moment) (rs : List WordRecord) → s .message .bus ≤ 1 → onClock (until .0) ≡ true → s .message .last .0 ≤ until .0
+  pub sent-taken : (until : Moment) (rs : List WordRecord) → s .message .bus ≤ lastBus → onClock (until .0) ≡ true → s .message .last .0 ≤ until .0
       → Accepted (planBetween s second until) (s .message .last .0) rs
       → Accepted (planBetween s second until) (second .time .0) (status ∷ (ds ++ rs))
   sent-taken until rs bus clock in-time taken =

@@ -9,7 +9,7 @@ use lib.ListN.{length, take}
 use Rattle.words.specs.Words.{onClock, addressOf, wordsOf, isBroadcast, isSpaced, wordTicks, parityOf, commandSync, dataSync}
 use Rattle.words.specs.Refusals.{notRefused}
 use Rattle.words.specs.declared.times.Moment.{Moment}
-use Rattle.records.specs.Records.{inRange}
+use Rattle.records.specs.Records.{lastBus, inRange}
 use Rattle.records.specs.declared.forms.WordRecord.{WordRecord}
 use Rattle.terminal.specs.Commands.{isLegal}
 use Rattle.terminal.specs.Messages.{isDue}
@@ -71,7 +71,7 @@ planFor s until = record {
 -- the records are taken: in range, of the plan's bus, each later than the one before, none after Q
 abbrev pub Accepted : Plan → ℕ → List WordRecord → Type 0
 Accepted plan before [] = Unit {0}
-Accepted plan before (r ∷ rs) = (inRange r ≡ true) × (recordRefusal plan before r ≡ notRefused) × Accepted plan (r .time .0) rs
+Accepted plan before (r ∷ rs) = (inRange lastBus r ≡ true) × (recordRefusal plan before r ≡ notRefused) × Accepted plan (r .time .0) rs
 
 -- The plan is not refused, nor is a record, and that is the verdict.
 pub record JudgedAs (plan : Plan) (returned : List WordRecord) (verdict : ℕ) : Type 0 where

@@ -3,12 +3,13 @@
 // argument. A call that may be refused gives the refusal's number, or 0. Types for C: include/buscard.h.
 ghost use mathlib.Core.Path.{_≡_};
 ghost use Rattle.buscard.specs.Answers.{oneIf, spacingNumber, recordOf, fieldOr, countOr, countRefusal, planOf};
-ghost use Rattle.records.specs.Records.{readOf, refusalOf, writeRefusal, writtenOf};
+ghost use Rattle.records.specs.Records.{lastBus, readOf, refusalOf, writeRefusal, writtenOf};
 ghost use Rattle.records.specs.Files.{countedOf};
 ghost use Rattle.records.specs.declared.forms.WordRecord.{WordRecord};
 ghost use Rattle.verdict.specs.Verdicts.{judgedOf, refusalIn, verdictOr, lookedOr};
 ghost use Rattle.words.specs.Words.{parityOf, isValid, isSpaced, spacingOf, distanceIn, commandOf, addressOf, transmitOf, subaddressOf, countOf, wordsOf, isMode, statusOf, flagsOf};
 use records::Counted;
+use records::LAST_BUS;
 use records::Read;
 use records::WordRecord;
 use verdict::Judged;
@@ -187,15 +188,15 @@ pub extern "C" fn bus_record_read(
     word: &mut u16,
     parity: &mut u8,
 ) -> u8
-    ensures refusal { λ r. ⌜ r ≡ refusalOf (readOf (now (bytes .entry))) ⌝ }
-    ensures time { λ _. ⌜ now (time .exit) ≡ fieldOr (readOf (now (bytes .entry))) (λ r. r .time .0) (now (time .entry)) ⌝ }
-    ensures bus { λ _. ⌜ now (bus .exit) ≡ fieldOr (readOf (now (bytes .entry))) (λ r. r .bus) (now (bus .entry)) ⌝ }
-    ensures sync { λ _. ⌜ now (sync .exit) ≡ fieldOr (readOf (now (bytes .entry))) (λ r. r .sync) (now (sync .entry)) ⌝ }
-    ensures faults { λ _. ⌜ now (faults .exit) ≡ fieldOr (readOf (now (bytes .entry))) (λ r. r .faults) (now (faults .entry)) ⌝ }
-    ensures word { λ _. ⌜ now (word .exit) ≡ fieldOr (readOf (now (bytes .entry))) (λ r. r .word) (now (word .entry)) ⌝ }
-    ensures parity { λ _. ⌜ now (parity .exit) ≡ fieldOr (readOf (now (bytes .entry))) (λ r. r .parity) (now (parity .entry)) ⌝ }
+    ensures refusal { λ r. ⌜ r ≡ refusalOf (readOf lastBus (now (bytes .entry))) ⌝ }
+    ensures time { λ _. ⌜ now (time .exit) ≡ fieldOr (readOf lastBus (now (bytes .entry))) (λ r. r .time .0) (now (time .entry)) ⌝ }
+    ensures bus { λ _. ⌜ now (bus .exit) ≡ fieldOr (readOf lastBus (now (bytes .entry))) (λ r. r .bus) (now (bus .entry)) ⌝ }
+    ensures sync { λ _. ⌜ now (sync .exit) ≡ fieldOr (readOf lastBus (now (bytes .entry))) (λ r. r .sync) (now (sync .entry)) ⌝ }
+    ensures faults { λ _. ⌜ now (faults .exit) ≡ fieldOr (readOf lastBus (now (bytes .entry))) (λ r. r .faults) (now (faults .entry)) ⌝ }
+    ensures word { λ _. ⌜ now (word .exit) ≡ fieldOr (readOf lastBus (now (bytes .entry))) (λ r. r .word) (now (word .entry)) ⌝ }
+    ensures parity { λ _. ⌜ now (parity .exit) ≡ fieldOr (readOf lastBus (now (bytes .entry))) (λ r. r .parity) (now (parity .entry)) ⌝ }
 {
-    match records::read_record(bytes) {
+    match records::read_record(bytes, LAST_BUS) {
         Read::Record(record) => {
             *time = record.time.0;
             *bus = record.bus;

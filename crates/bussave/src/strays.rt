@@ -5,6 +5,7 @@ use libc::STDERR_FILENO;
 use lines::Block;
 use lines::Sink;
 use lines::begin_complaint;
+use records::LAST_BUS;
 use records::RECORD_BYTES;
 use records::Read;
 use records::read_record;
@@ -138,7 +139,7 @@ impl Strays {
         if place < self.reach {
             return self;
         }
-        let Read::Record(heard) = read_record(bytes) else {
+        let Read::Record(heard) = read_record(bytes, LAST_BUS) else {
             return self;
         };
         let late = self.late;

@@ -1,6 +1,7 @@
 // A course of calls from bytes, played on one terminal: the bench times it and holds its sum to plain C's (bench/course.c). Nothing of the card
 // calls it. Proved: it is safe and ends for any bytes, and leaves them as they are, to which their type holds it too. Refusals: none.
 ghost use mathlib.Core.Path.{_≡_};
+use records::LAST_BUS;
 use records::Read;
 use records::WordRecord;
 use records::read_record;
@@ -132,7 +133,7 @@ fn play(calls: &[u8], ask: bool, receive: &mut [u16; 1024], transmit: &mut [u16;
     let mut at = 0;
     while at < calls.len() {
         let kind = calls[at];
-        let read = read_record(&calls[at + 1..]);
+        let read = read_record(&calls[at + 1..], LAST_BUS);
         let Read::Record(heard) = read else {
             return sum;
         };

@@ -8,7 +8,7 @@ use lib.Dec.{eqb, leb}
 use lib.ListN.{length}
 use borrow.Author.Tests.{leb-true, eqb-true}
 use Rattle.words.specs.Words.{onClock, addressOf}
-use Rattle.records.specs.Records.{inRange}
+use Rattle.records.specs.Records.{lastBus, inRange}
 use Rattle.records.specs.declared.forms.WordRecord.{WordRecord}
 use Rattle.terminal.specs.States.{ownOf, setupOf, freshOf, withHost, withMessage, atTime}
 use Rattle.terminal.specs.Commands.{isOwn}
@@ -118,7 +118,7 @@ module _ (s : State) (h : Sound s) (t : ℕ) (later : s .time .0 ≤ t) (on-cloc
 
 module _ (s : State) (h : Sound s) (r : WordRecord) (at : r .time .0 ≤ s .time .0) where
   -- after an own command
-  begun-sound : inRange r ≡ true → isOwn (s .setup .own) r ≡ true → Sound (rule4 s r)
+  begun-sound : inRange lastBus r ≡ true → isOwn (s .setup .own) r ≡ true → Sound (rule4 s r)
   unfolding rule4 isOwn
   begun-sound ranged own =
       let to : isTo (s .setup .own) (r .word) ≡ true = search (and-right, own) in
@@ -150,7 +150,7 @@ module _ (s : State) (h : Sound s) (r : WordRecord) (at : r .time .0 ≤ s .time
   next-sound (Pledged address) e = cond-cases Sound (isStatusFrom address r) (λ f. moved-sound Confirmed (ap isOpening e)) (λ f. faulty-sound s h _)
 
   -- after any word
-  word-sound : inRange r ≡ true → Sound (rules3to6 s r)
+  word-sound : inRange lastBus r ≡ true → Sound (rules3to6 s r)
   unfolding rules3to6 rule5
   word-sound ranged =
       cond-cases Sound (rule3 s r) (λ e. h)

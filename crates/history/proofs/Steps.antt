@@ -1,14 +1,15 @@
 -- A call that is accepted, and one that is refused. Assumes nothing.
 use mathlib.Core.Path.{_≡_, refl, sym, ap, _∙_}
-use Prim.Native.Nat.{ℕ, _≤_}
+use Prim.Native.Nat.{ℕ, _^_, _≤_}
 use mathlib.Core.Bool.{Bool, true, false, cond, _&&_}
 use mathlib.Core.List.{List, [], _∷_, _++_}
 use lib.Dec.{eqb, leb}
 use lib.ListN.{length}
-use borrow.Author.Tests.{leb-true, not-true}
+use borrow.Author.Tests.{leb-true, lt-ltb, not-true}
 use Rattle.words.specs.Words.{onClock}
-use Rattle.records.specs.Records.{inRange}
+use Rattle.records.specs.Records.{lastBus, inRange}
 use Rattle.records.specs.declared.forms.WordRecord.{WordRecord}
+use Rattle.records.proofs.Ranges.{in-range-time}
 use Rattle.terminal.specs.Rules.{rule1Receive}
 use Rattle.terminal.specs.Events.{setUpOf, timeOf, isInRange, eventRefusal, passedOf, takenOf, happensOf, refusedOf, eventOf, eventReceive}
 use Rattle.terminal.specs.declared.states.Terminal.{Terminal as State}
@@ -17,7 +18,7 @@ use Rattle.terminal.specs.declared.events.Event.the-variants.{Mark, Word}
 use Rattle.terminal.specs.declared.events.Happened.{Happened}
 use Rattle.history.specs.Calls.{Call, setUp, event, host, clearSelftest, restart, isAccepted, isSetUp, isRefused, step, run}
 use Rattle.history.specs.Demands.{ShowsNumberAlone, RefusalsKeep}
-use Rattle.history.proofs.Tests.{false≢, and-left}
+use Rattle.history.proofs.Tests.{false≢}
 
 -- ---- an event
 module _ (s : State) (e : Event) (receive transmit : List ℕ) where
@@ -75,8 +76,8 @@ pub not-earlier : (s : State) (e : Event) (receive transmit : List ℕ) → isAc
 not-earlier s e receive transmit ok = leb-true (s .time .0) (timeOf e) (shown s e receive transmit ok .ordered)
 
 -- a record that is in range has a time on the clock
-pub record-on-clock : (r : WordRecord) → inRange r ≡ true → onClock (r .time .0) ≡ true
-record-on-clock r h = search (and-left, h)
+pub record-on-clock : (r : WordRecord) → inRange lastBus r ≡ true → onClock (r .time .0) ≡ true
+record-on-clock r h = lt-ltb (r .time .0) (2 ^ 48) (in-range-time lastBus r h)
 
 -- a time mark of the moment of an accepted record is accepted
 pub mark-accepted : (s : State) (r : WordRecord) (receive transmit : List ℕ) → isAccepted s (Word r) receive transmit ≡ true

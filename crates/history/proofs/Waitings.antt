@@ -4,10 +4,11 @@ use Prim.Native.Nat.{ℕ, _+_, _≤_}
 use mathlib.Core.Bool.{true, false}
 use native.Mathlib.Omega.{arith}
 use lib.ListN.{length-set}
-use borrow.Author.Tests.{leb-true, ltb-true}
+use borrow.Author.Tests.{ltb-true}
 use Rattle.words.specs.Words.{isTransmit, isMode, dueDistance, awaitedOf}
-use Rattle.records.specs.Records.{inRange}
+use Rattle.records.specs.Records.{lastBus, inRange}
 use Rattle.records.specs.declared.forms.WordRecord.{WordRecord}
+use Rattle.records.proofs.Ranges.{in-range-bus}
 use Rattle.terminal.specs.Messages.{awaitsData}
 use Rattle.terminal.specs.Settling.{isWithheld, sendingOf}
 use Rattle.terminal.specs.Rules.{firstPhase, begunOf, stagedOf, movedOf}
@@ -18,7 +19,7 @@ use Rattle.terminal.specs.declared.states.Sending.{Sending}
 use Rattle.terminal.specs.declared.states.Terminal.{Terminal as State}
 use Rattle.terminal.proofs.Counts.{awaited-most}
 use Rattle.history.specs.States.{isTo, isOpening, Waiting, Window}
-use Rattle.history.proofs.Tests.{false≢, cond-cases, and-left, and-right}
+use Rattle.history.proofs.Tests.{false≢, cond-cases, and-right}
 
 -- ---- at a later time
 
@@ -43,10 +44,10 @@ first-opening word = cond-cases P (isTransmit word) (λ e. false≢) (λ e. cond
 
 module _ (own : Own) (now : ℕ) (r : WordRecord) (at : r .time .0 ≤ now) where
   -- begun by an own command
-  pub waiting-begun : inRange r ≡ true → isTo own (r .word) ≡ true → Waiting own now (begunOf r)
+  pub waiting-begun : inRange lastBus r ≡ true → isTo own (r .word) ≡ true → Waiting own now (begunOf r)
   unfolding begunOf
   waiting-begun ranged to =
-      let bus = leb-true (r .bus) 1 (search (and-left, and-right, ranged)) in
+      let bus = in-range-bus lastBus r ranged in
       search (first-opening, awaited-most, arith)
 
   module _ (m : Message) (w : Waiting own now m) where

@@ -6,6 +6,7 @@ use mathlib.Core.List.{List}
 use lib.Dec.{eqb, ltb, leb}
 use lib.ListN.{length}
 use Rattle.words.specs.Words.{onClock, sinceOf, spacingLeast, addressOf, isBroadcast, isTransmit, isMode, hasNoOther, awaitedOf}
+use Rattle.records.specs.Records.{lastBus}
 use Rattle.records.specs.declared.forms.WordRecord.{WordRecord}
 use Rattle.terminal.specs.Commands.{isOwn, isExempt}
 use Rattle.terminal.specs.Messages.{isUnderWay, awaitsData, isOver, isNextData, isSecond, isStatusFrom}
@@ -129,7 +130,7 @@ pub record Holding (own : Own) (h : Held) : Type 0 where
 -- a message under way, of a terminal of that own address whose last event had that time
 pub record Waiting (own : Own) (now : ℕ) (m : Message) : Type 0 where
   -- "bus (1: 0 is A, 1 is B)"
-  pub bus : m .bus ≤ 1
+  pub bus : m .bus ≤ lastBus
   -- begun by an own command
   pub command : isTo own (m .command .0) ≡ true
   -- no word of it is later than the last event
@@ -144,7 +145,7 @@ pub record Waiting (own : Own) (now : ℕ) (m : Message) : Type 0 where
 
 -- a sending: "due time D up to, not including, D + 200 times the words sent", a status word and at most 32 data words
 pub record Window (now : ℕ) (w : Sending) : Type 0 where
-  pub bus : w .bus ≤ 1
+  pub bus : w .bus ≤ lastBus
   pub from : w .from .0 ≤ now
   pub least : 1 ≤ w .words
   pub most : w .words ≤ 33

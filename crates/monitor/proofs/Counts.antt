@@ -7,17 +7,19 @@ use mathlib.Core.List.{List, [], _∷_, _++_, append-assoc}
 use lib.Dec.{eqb, ltb}
 use lib.ListN.{length, drop, length-append}
 use Rattle.words.specs.declared.times.Moment.{Moment}
+use Rattle.records.specs.Records.{lastBus}
 use Rattle.records.specs.Files.{openOf}
 use Rattle.records.specs.declared.files.Opened.{Opened}
 use Rattle.records.specs.declared.files.Opened.the-variants as opened
 use Rattle.records.specs.declared.forms.WordRecord.{WordRecord}
+use Rattle.records.proofs.Ranges.{in-range-bus}
 use Rattle.monitor.specs.Entries.{isCommand, partOf, messageOf, entryOf}
 use Rattle.monitor.specs.Logs.{Placed, heardOn, partIn, belongs, closesAt, groupsFrom, groupsOf, endTime, entriesOf, entriesOn, among, merged, logOf, frontOf, logAt, fileLog}
 use Rattle.monitor.specs.Theorems.{onBus, recordsOf, recordsIn, countIn, EveryRecordOnce, Each}
 use Rattle.monitor.specs.declared.entries.Entry.the-variants as entry
 use Rattle.monitor.specs.declared.entries.Logged.{Logged}
 use Rattle.monitor.specs.declared.openings.Part.the-variants.{Starts}
-use Rattle.monitor.proofs.Futures.{in-range, front-each}
+use Rattle.monitor.proofs.Futures.{front-each}
 
 -- ---- the records of the groups of a bus
 
@@ -124,14 +126,14 @@ count-merged (e ∷ es) fs = count-among e (merged es) (countIn es) (count-merge
 
 -- each record is of one of the two buses
 abbrev OfTwo : List WordRecord → Type 0
-OfTwo rs = Each (λ (r : WordRecord). r .bus ≤ 1) rs
+OfTwo rs = Each (λ (r : WordRecord). r .bus ≤ lastBus) rs
 
 heard-all : (place other : ℕ) (rs : List WordRecord) → OfTwo rs → length (heardOn 0 place rs) + length (heardOn 1 other rs) ≡ length rs
 unfolding heardOn
 heard-all place other [] two = refl
 heard-all place other (r ∷ rs) two = go (r .bus) (two .0) (heard-all (suc place) (suc other) rs (two .1))
   where
-    go : (bus : ℕ) → bus ≤ 1 → length (heardOn 0 (suc place) rs) + length (heardOn 1 (suc other) rs) ≡ length rs
+    go : (bus : ℕ) → bus ≤ lastBus → length (heardOn 0 (suc place) rs) + length (heardOn 1 (suc other) rs) ≡ length rs
         → length (cond (eqb bus 0) (record { place = place; heard = r } ∷ heardOn 0 (suc place) rs) (heardOn 0 (suc place) rs))
         + length (cond (eqb bus 1) (record { place = other; heard = r } ∷ heardOn 1 (suc other) rs) (heardOn 1 (suc other) rs))
         ≡ suc (length rs)
@@ -153,7 +155,7 @@ unfolding frontOf
 count-at (opened.Refused n) file = refl
 count-at (opened.At c) file =
     let bytes = drop (c .at) file in
-    count-log (frontOf bytes .taken) (front-each (λ (r : WordRecord). r .bus ≤ 1) (λ r range. in-range r range .1) (length bytes) 0 bytes)
+    count-log (frontOf bytes .taken) (front-each (λ (r : WordRecord). r .bus ≤ lastBus) (λ r range. in-range-bus lastBus r range) (length bytes) 0 bytes)
 
 pub every-record-once : EveryRecordOnce
 unfolding fileLog

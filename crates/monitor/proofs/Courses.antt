@@ -7,8 +7,10 @@ use native.Mathlib.Omega.{arith}
 use mathlib.Core.List.{List, [], _∷_}
 use lib.Dec.{ltb}
 use lib.ListN.{length, getD}
+use Rattle.records.specs.Records.{lastBus}
 use Rattle.records.specs.Files.{openOf}
 use Rattle.records.specs.declared.forms.WordRecord.{WordRecord}
+use Rattle.records.proofs.Ranges.{in-range-time}
 use Rattle.monitor.specs.Logs.{entriesOn, merged, logOf, frontOf, fileLog}
 use Rattle.monitor.specs.Machine.{sideStart, readyWith, readyOf, isFeed, givenOf, wantsMore, choiceAlone, choiceAgainst, choiceOf}
 use Rattle.monitor.specs.Theorems.{Course, over, feed-first, end-first, give-first, feed-second, end-second, give-second, LogOfTheFile}
@@ -24,7 +26,7 @@ use Rattle.monitor.specs.declared.sides.Choice.{Choice}
 use Rattle.monitor.specs.declared.sides.Choice.the-variants.{FeedFirst, FeedSecond, GiveFirst, GiveSecond, Over}
 use Rattle.monitor.proofs.Summaries.{next-fits}
 use Rattle.monitor.proofs.Groups.{walk-entries}
-use Rattle.monitor.proofs.Futures.{in-range, front-each, front-few, Told, recordsAfter, told, told-ended, told-fed, told-given, told-over}
+use Rattle.monitor.proofs.Futures.{front-each, front-few, Told, recordsAfter, told, told-ended, told-fed, told-given, told-over}
 
 -- ---- what a choice says of the two sides
 
@@ -193,7 +195,7 @@ unfolding told sideStart frontOf
 from-start bus bytes few =
     let taken = frontOf bytes .taken in
     let most : length (frontOf bytes .taken) < 2 ^ 64 = omega (arith, front-few (length bytes) 0 bytes, few) in
-    rw (walk-entries bus taken most (front-each (λ (r : WordRecord). r .time .0 < 2 ^ 64) (λ r range. omega (arith, in-range r range .0)) (length bytes) 0 bytes), records-after taken 0 (omega (arith, most)))
+    rw (walk-entries bus taken most (front-each (λ (r : WordRecord). r .time .0 < 2 ^ 64) (λ r range. omega (arith, in-range-time lastBus r range)) (length bytes) 0 bytes), records-after taken 0 (omega (arith, most)))
     (ap (λ (k : ℕ). record { entries = entriesOn bus taken; refusal = frontOf bytes .refusal; records = k }) (omega arith))
 
 pub log-of-the-file : LogOfTheFile

@@ -1,18 +1,17 @@
 -- What is still to come of a side with the bytes that it has not taken: feeding and ending change nothing of it, giving takes the first. Assumes nothing.
 use mathlib.Core.Path.{_≡_, refl, sym, ap, _∙_}
-use mathlib.Core.Bool.{Bool, true, false, cond, _&&_, true≢false}
-use Prim.Native.Nat.{ℕ, zero, suc, _+_, _^_, _≤_, _<_}
+use mathlib.Core.Bool.{Bool, true, false, cond, true≢false}
+use Prim.Native.Nat.{ℕ, zero, suc, _+_, _≤_, _<_}
 use native.Mathlib.Omega.{arith}
 use mathlib.Core.List.{List, [], _∷_, _++_}
-use lib.Dec.{eqb, ltb, leb}
+use lib.Dec.{eqb, ltb}
 use lib.ListN.{length, drop, length-drop, length-append, drop-of-length-le}
 use lib.Seq.{drop-drop, drop-append-le}
-use borrow.Author.Tests.{eq-eqb, ne-eqb, eqb-false, lt-leb, leb-true, ltb-true, ltb-false}
+use borrow.Author.Tests.{eq-eqb, ne-eqb, eqb-false, lt-leb, ltb-true, ltb-false}
 use Rattle.words.specs.Refusals.{refusedOutOfOrder}
 use Rattle.words.specs.declared.times.Moment.{Moment}
 use Rattle.words.specs.declared.refusals.Refusal.{Refusal}
-use Rattle.words.proofs.Truth.{and-both}
-use Rattle.records.specs.Records.{readOf, inRange}
+use Rattle.records.specs.Records.{lastBus, readOf, inRange}
 use Rattle.records.specs.declared.forms.WordRecord.{WordRecord}
 use Rattle.records.specs.declared.forms.Read.{Read}
 use Rattle.records.specs.declared.forms.Read.the-variants as read
@@ -45,7 +44,7 @@ front-none zero before bytes none = refl
 front-none (suc n) before bytes none = rw (eq-eqb (length bytes) 0 none)
 
 pub front-some : (n before : ℕ) (bytes : List ℕ) → (length bytes ≡ 0 → ⊥)
-    → frontFrom (suc n) before bytes ≡ frontWith before (readOf bytes) (λ (time : ℕ). frontFrom n time (drop 16 bytes))
+    → frontFrom (suc n) before bytes ≡ frontWith before (readOf lastBus bytes) (λ (time : ℕ). frontFrom n time (drop 16 bytes))
 unfolding frontFrom
 front-some n before bytes some = rw (ne-eqb (length bytes) 0 some)
 
@@ -68,30 +67,21 @@ front-fuel (suc n) (suc m) before bytes l k =
     go (eqb (length bytes) 0) refl (λ time some. front-fuel n m time (drop 16 bytes) (omega (arith, some, length-drop 16 bytes)) (omega (arith, some, length-drop 16 bytes)))
   where
     go : (b : Bool) → eqb (length bytes) 0 ≡ b → ((time : ℕ) → 0 < length bytes → frontFrom n time (drop 16 bytes) ≡ frontFrom m time (drop 16 bytes))
-        → cond b (stops 0) (frontWith before (readOf bytes) (λ (time : ℕ). frontFrom n time (drop 16 bytes)))
-        ≡ cond b (stops 0) (frontWith before (readOf bytes) (λ (time : ℕ). frontFrom m time (drop 16 bytes)))
+        → cond b (stops 0) (frontWith before (readOf lastBus bytes) (λ (time : ℕ). frontFrom n time (drop 16 bytes)))
+        ≡ cond b (stops 0) (frontWith before (readOf lastBus bytes) (λ (time : ℕ). frontFrom m time (drop 16 bytes)))
     go true h again = refl
     go false h again =
-        with-same before (readOf bytes) (λ (time : ℕ). frontFrom n time (drop 16 bytes)) (λ (time : ℕ). frontFrom m time (drop 16 bytes))
+        with-same before (readOf lastBus bytes) (λ (time : ℕ). frontFrom n time (drop 16 bytes)) (λ (time : ℕ). frontFrom m time (drop 16 bytes))
         (λ time. again time (some-length bytes h))
 
--- what a record in range is known by
-pub in-range : (r : WordRecord) → inRange r ≡ true → (r .time .0 < 2 ^ 48) × (r .bus ≤ 1)
-in-range r h =
-    let all = and-both (ltb (r .time .0) (2 ^ 48) && leb (r .bus) 1 && leb (r .sync) 2 && leb (r .faults) 3) (leb (r .parity) 1) h .0 in
-    let three = and-both (ltb (r .time .0) (2 ^ 48) && leb (r .bus) 1 && leb (r .sync) 2) (leb (r .faults) 3) all .0 in
-    let two = and-both (ltb (r .time .0) (2 ^ 48) && leb (r .bus) 1) (leb (r .sync) 2) three .0 in
-    let one = and-both (ltb (r .time .0) (2 ^ 48)) (leb (r .bus) 1) two in
-    (ltb-true (r .time .0) (2 ^ 48) (one .0), leb-true (r .bus) 1 (one .1))
-
 -- what each record in range has, each that is read has
-module _ (P : WordRecord → Type 0) (holds : (r : WordRecord) → inRange r ≡ true → P r) where
-  each-with : (before : ℕ) (bytes : List ℕ) (g : Read) → readOf bytes ≡ g → (f : ℕ → Front) → ((time : ℕ) → Each P (f time .taken)) → Each P (frontWith before g f .taken)
+module _ (P : WordRecord → Type 0) (holds : (r : WordRecord) → inRange lastBus r ≡ true → P r) where
+  each-with : (before : ℕ) (bytes : List ℕ) (g : Read) → readOf lastBus bytes ≡ g → (f : ℕ → Front) → ((time : ℕ) → Each P (f time .taken)) → Each P (frontWith before g f .taken)
   each-with before bytes (read.Refused n) e f all = tt
   each-with before bytes (read.Record r) e f all = go (ltb (r .time .0) before)
     where
-      range : inRange r ≡ true
-      range = let g = read-good bytes r e in ap inRange (sym (g .same)) ∙ g .in-range
+      range : inRange lastBus r ≡ true
+      range = let g = read-good lastBus bytes r e in ap (inRange lastBus) (sym (g .same)) ∙ g .in-range
 
       go : (b : Bool) → Each P (cond b (stops refusedOutOfOrder) (goesOn r (f (r .time .0))) .taken)
       go true = tt
@@ -103,9 +93,9 @@ module _ (P : WordRecord → Type 0) (holds : (r : WordRecord) → inRange r ≡
   front-each (suc n) before bytes = go (eqb (length bytes) 0) (λ time. front-each n time (drop 16 bytes))
     where
       go : (b : Bool) → ((time : ℕ) → Each P (frontFrom n time (drop 16 bytes) .taken))
-          → Each P (cond b (stops 0) (frontWith before (readOf bytes) (λ (time : ℕ). frontFrom n time (drop 16 bytes))) .taken)
+          → Each P (cond b (stops 0) (frontWith before (readOf lastBus bytes) (λ (time : ℕ). frontFrom n time (drop 16 bytes))) .taken)
       go true again = tt
-      go false again = each-with before bytes (readOf bytes) refl (λ (time : ℕ). frontFrom n time (drop 16 bytes)) again
+      go false again = each-with before bytes (readOf lastBus bytes) refl (λ (time : ℕ). frontFrom n time (drop 16 bytes)) again
 
 -- they are no more than the bytes
 few-with : (before n : ℕ) (g : Read) (f : ℕ → Front) → ((time : ℕ) → length (f time .taken) ≤ n) → length (frontWith before g f .taken) ≤ suc n
@@ -122,9 +112,9 @@ front-few zero before bytes = omega arith
 front-few (suc n) before bytes = go (eqb (length bytes) 0) (λ time. front-few n time (drop 16 bytes))
   where
     go : (b : Bool) → ((time : ℕ) → length (frontFrom n time (drop 16 bytes) .taken) ≤ n)
-        → length (cond b (stops 0) (frontWith before (readOf bytes) (λ (time : ℕ). frontFrom n time (drop 16 bytes))) .taken) ≤ suc n
+        → length (cond b (stops 0) (frontWith before (readOf lastBus bytes) (λ (time : ℕ). frontFrom n time (drop 16 bytes))) .taken) ≤ suc n
     go true again = omega arith
-    go false again = few-with before n (readOf bytes) (λ (time : ℕ). frontFrom n time (drop 16 bytes)) again
+    go false again = few-with before n (readOf lastBus bytes) (λ (time : ℕ). frontFrom n time (drop 16 bytes)) again
 
 -- ---- what is still to come
 
@@ -236,7 +226,7 @@ told-wants s bytes h =
 told-read : (s : Side) (bytes : List ℕ) → wantsMore s ≡ true → (length bytes ≡ 0 → ⊥) → told (readBy (s .walk) bytes) (drop 16 bytes) ≡ told s bytes
 unfolding readBy
 told-read s bytes h some =
-    told-with (s .walk) (drop 16 bytes) (length bytes) (omega (arith, length-drop 16 bytes)) (readOf bytes)
+    told-with (s .walk) (drop 16 bytes) (length bytes) (omega (arith, length-drop 16 bytes)) (readOf lastBus bytes)
     ∙ ap (toldOver found.Nothing (s .walk))
     (sym (front-some (length bytes) (s .walk .clock .0) bytes some)
     ∙ front-fuel (suc (length bytes)) (length bytes) (s .walk .clock .0) bytes (omega arith) (omega arith))
@@ -254,7 +244,7 @@ told-ended s bytes h l = rw (lt-leb 16 (length bytes) l, h) (go bytes l)
 
 read-same : (w : Walk) (chunk rest us : List ℕ) → 16 ≤ length chunk → us ≡ chunk ++ rest → readBy w chunk ≡ readBy w us
 unfolding readBy
-read-same w chunk rest us l e = ap (readWith w) (sym (read-front chunk rest l) ∙ ap readOf (sym e))
+read-same w chunk rest us l e = ap (readWith w) (sym (read-front lastBus chunk rest l) ∙ ap (readOf lastBus) (sym e))
 
 -- a chunk of what is left, which begins at a place
 told-chunk : (n : ℕ) (s : Side) (chunk rest us : List ℕ) (at : ℕ) → drop at us ≡ chunk ++ rest

@@ -8,6 +8,7 @@ use lib.Dec.{ltb}
 use lib.ListN.{length, drop, length-drop, length-append}
 use borrow.Author.Tests.{lt-leb, ltb-true, ltb-false}
 use Rattle.words.specs.declared.refusals.Refusal.{Refusal}
+use Rattle.records.specs.Records.{lastBus}
 use Rattle.records.specs.declared.forms.Read.{Read}
 use Rattle.records.proofs.Cases.{short}
 use Rattle.monitor.specs.Machine.{sideStart, readyWith, readyOf, isFeed, wantsMore, stoppedBy, readWith, readBy, fedFrom, fedOf, endedWith, endedBy, givenOf, choiceOf}
@@ -77,7 +78,7 @@ less-fed s us chunk rest h parts l =
 ended-stop : (w : Walk) (us : List ℕ) → length us < 16 → (n : Refusal) × (endedWith w us .stop ≡ stop.Ended n)
 unfolding stoppedBy readBy
 ended-stop w [] l = (record { 0 = 0 }, refl)
-ended-stop w (u ∷ us) l = (record { 0 = 3 }, ap (λ (g : Read). readWith w g .stop) (sym (short (u ∷ us) l)))
+ended-stop w (u ∷ us) l = (record { 0 = 3 }, ap (λ (g : Read). readWith w g .stop) (sym (short lastBus (u ∷ us) l)))
 
 left-ended : (x : Stop) (f : Found) (bytes : ℕ) (n : Refusal) → x ≡ stop.Ended n → leftWith x f bytes ≤ 1
 left-ended (stop.Ended m) found.Nothing bytes n h = omega arith

@@ -12,12 +12,13 @@ use lib.Seq.{drop-at}
 use borrow.Author.Tests.{eqb-true, eqb-false, eq-eqb, ne-eqb, lt-ltb, le-leb, not-false}
 use Rattle.words.specs.Refusals.{notRefused}
 use Rattle.words.specs.declared.times.Moment.{Moment}
-use Rattle.records.specs.Records.{formOf}
+use Rattle.records.specs.Records.{lastBus, formOf}
 use Rattle.records.specs.Files.{whole, with, formsOf}
 use Rattle.records.specs.Theorems.{Fits}
 use Rattle.records.specs.declared.forms.WordRecord.{WordRecord}
+use Rattle.records.proofs.Ranges.{in-range-time, in-range-bus}
 use Rattle.records.proofs.Theorems.{read-written}
-use Rattle.verdict.specs.Plans.{isPossible, planRefusal}
+use Rattle.verdict.specs.Plans.{isPossible}
 use Rattle.verdict.specs.Verdicts.{recordRefusal, returnedFrom, returnedOf, findingOf, verdictOf, judgedOf}
 use Rattle.verdict.specs.Theorems.{lastAfter}
 use Rattle.verdict.specs.declared.verdicts.Verdict.{Verdict}
@@ -25,6 +26,7 @@ use Rattle.verdict.specs.declared.plans.Plan.{Plan}
 use Rattle.verdict.specs.declared.judges.Finding.{Finding}
 use Rattle.verdict.specs.declared.judges.Judged.the-variants as judged
 use Rattle.verdict.proofs.Findings.{taken-given}
+use Rattle.verdict.proofs.Refusals.{plan-accepted}
 use Rattle.monitor.specs.Entries.{isSecond, commandsOf, lastCommand, behindOf, lastIn, isFar, ownNumber, ownBad, ownLast, returnedIn, hasTwins, planOf, outcomeIn}
 use Rattle.monitor.specs.Logs.{Group, Placed, heardOn, partIn, belongs, closesAt, groupsFrom, groupsOf, groupsOn, endTime}
 use Rattle.monitor.specs.Theorems.{onBus, Each, Written, ByTheRules, VerdictOfTheRules}
@@ -32,14 +34,13 @@ use Rattle.monitor.specs.declared.entries.Outcome.the-variants as outcom
 use Rattle.monitor.proofs.Appends.{or-no, last-time, last-split}
 use Rattle.monitor.proofs.Summaries.{last-behind, own-last, plan-bus, plan-until}
 use Rattle.monitor.proofs.Groups.{far-later}
-use Rattle.monitor.proofs.Futures.{in-range}
 use Rattle.monitor.proofs.Counts.{heards, heards-on}
 
 -- ---- records of one bus, none earlier than the one before it
 
 abbrev Chain : ℕ → ℕ → List WordRecord → Type 0
 Chain bus t [] = Unit {0}
-Chain bus t (r ∷ rs) = Fits r × (r .bus ≡ bus) × (t ≤ r .time .0) × Chain bus (r .time .0) rs
+Chain bus t (r ∷ rs) = Fits lastBus r × (r .bus ≡ bus) × (t ≤ r .time .0) × Chain bus (r .time .0) rs
 
 chain-less : (bus t less : ℕ) (rs : List WordRecord) → less ≤ t → Chain bus t rs → Chain bus less rs
 chain-less bus t less [] l chain = tt
@@ -82,7 +83,7 @@ end-late bus (r ∷ rs) t m l written =
 
 end-clock : (rs : List WordRecord) (m : Moment) → m .0 < 2 ^ 48 → Written (m .0) rs → endTime m rs .0 < 2 ^ 48
 end-clock [] m l written = l
-end-clock (r ∷ rs) m l written = end-clock rs (r .time) (in-range r (written .0 .in-range) .0) (written .2)
+end-clock (r ∷ rs) m l written = end-clock rs (r .time) (in-range-time lastBus r (written .0 .in-range)) (written .2)
 
 -- ---- so are those of a group, and Q is not earlier
 
@@ -91,7 +92,7 @@ pub record Sound (bus : ℕ) (g : Group) : Type 0 where
   pub late : lastAfter (g .first .time .0) (g .rest) ≤ g .until .0
   pub clock : g .until .0 < 2 ^ 48
 
-closes-late : (bus : ℕ) (first : WordRecord) (rest : List WordRecord) (r : WordRecord) → Fits r → lastAfter (first .time .0) rest ≤ r .time .0
+closes-late : (bus : ℕ) (first : WordRecord) (rest : List WordRecord) (r : WordRecord) → Fits lastBus r → lastAfter (first .time .0) rest ≤ r .time .0
     → (lastAfter (first .time .0) rest ≤ closesAt first rest r .0) × (closesAt first rest r .0 < 2 ^ 48)
 unfolding closesAt
 closes-late bus first rest r fits l = go (isFar first rest r) refl
@@ -99,8 +100,8 @@ closes-late bus first rest r fits l = go (isFar first rest r) refl
     go : (b : Bool) → isFar first rest r ≡ b
         → (lastAfter (first .time .0) rest ≤ cond b (record { 0 = lastIn first rest .time .0 + 320 }) (r .time) .0)
         × (cond b (record { 0 = lastIn first rest .time .0 + 320 }) (r .time) .0 < 2 ^ 48)
-    go true h = (omega (arith, last-time first rest), omega (arith, far-later first rest r h, in-range r (fits .in-range) .0))
-    go false h = (l, in-range r (fits .in-range) .0)
+    go true h = (omega (arith, last-time first rest), omega (arith, far-later first rest r h, in-range-time lastBus r (fits .in-range)))
+    go false h = (l, in-range-time lastBus r (fits .in-range))
 
 sound-from : (bus : ℕ) (ps : List Placed) (end : Moment) (place : ℕ) (first : WordRecord) (rest : List WordRecord)
     → Chain bus 0 (first ∷ (rest ++ heards ps)) → lastAfter (first .time .0) (rest ++ heards ps) ≤ end .0 → end .0 < 2 ^ 48
@@ -153,7 +154,7 @@ sound-on rs written bus =
 
 abbrev Strict : ℕ → ℕ → List WordRecord → Type 0
 Strict bus t [] = Unit {0}
-Strict bus t (r ∷ rs) = Fits r × (r .bus ≡ bus) × (t < r .time .0) × Strict bus (r .time .0) rs
+Strict bus t (r ∷ rs) = Fits lastBus r × (r .bus ≡ bus) × (t < r .time .0) × Strict bus (r .time .0) rs
 
 later : (m n : ℕ) → m ≤ n → eqb n m ≡ false → m < n
 later m n l differ = ⊎-elim (λ same. absurd (eqb-false n m differ (sym same))) (λ below. below) (eq-or-lt-of-le l)
@@ -188,11 +189,11 @@ taken : (plan : Plan) (bus t : ℕ) (r : WordRecord) → plan .bus ≡ bus → r
 unfolding recordRefusal
 taken plan bus t r p b l m = rw (eq-eqb (r .bus) (plan .bus) (b ∙ sym p), lt-ltb t (r .time .0) l, le-leb (r .time .0) (plan .until .0) m)
 
-returned-some : (n : ℕ) (plan : Plan) (t : ℕ) (r : WordRecord) (after : List ℕ) → Fits r → recordRefusal plan t r ≡ notRefused
+returned-some : (n : ℕ) (plan : Plan) (t : ℕ) (r : WordRecord) (after : List ℕ) → Fits lastBus r → recordRefusal plan t r ≡ notRefused
     → returnedFrom (suc n) plan t (formOf r ++ after) ≡ with r (returnedFrom n plan (r .time .0) after)
 unfolding returnedFrom
 returned-some n plan t r after fits ok =
-    rw (ne-eqb (length (formOf r ++ after)) 0 (λ z. omega (arith, z, length-append (formOf r) after)), read-written r after fits, eq-eqb (recordRefusal plan t r) notRefused ok)
+    rw (ne-eqb (length (formOf r ++ after)) 0 (λ z. omega (arith, z, length-append (formOf r) after)), read-written lastBus r after fits, eq-eqb (recordRefusal plan t r) notRefused ok)
     (ap (λ (k : List ℕ). with r (returnedFrom n plan (r .time .0) k)) (drop-at (formOf r) after 16 refl))
 
 returned-none : (n : ℕ) (plan : Plan) (t : ℕ) → returnedFrom n plan t [] ≡ whole []
@@ -211,11 +212,6 @@ returned-all (r ∷ rs) (suc n) plan bus t l p all late =
     ∙ ap (with r) (returned-all rs n plan bus (r .time .0) (omega (arith, l, length-append (formOf r) (formsOf rs))) p (all .3) late)
 
 -- ---- the verdict
-
-plan-taken : (plan : Plan) → isPossible plan ≡ true → plan .bus ≤ 1 → plan .last .0 ≤ plan .until .0 → plan .until .0 < 2 ^ 48 → planRefusal plan ≡ notRefused
-unfolding planRefusal
-plan-taken plan possible bus order clock =
-    rw (possible, le-leb (plan .bus) 1 bus, lt-ltb (plan .last .0) (2 ^ 48) (omega (arith, order, clock)), lt-ltb (plan .until .0) (2 ^ 48) clock, le-leb (plan .last .0) (plan .until .0) order)
 
 given-same : (v w : Verdict) → outcome.Given v ≡ outcome.Given w → v ≡ w
 given-same v w h = cc
@@ -258,7 +254,7 @@ module _ (bus : ℕ) (g : Group) (sound : Sound bus g) where
       let all = all-later alone in
       let order = strict-last bus returned (plan .last .0) all in
       taken-given plan (formsOf returned) returned
-      (plan-taken plan possible (omega (arith, bus-same, sound .chain .1, in-range first (sound .chain .0 .in-range) .1)) (omega (arith, order, last-same, sound .late, until-same))
+      (plan-accepted plan possible (omega (arith, bus-same, sound .chain .1, in-range-bus lastBus first (sound .chain .0 .in-range))) (omega (arith, order, last-same, sound .late, until-same))
       (omega (arith, until-same, sound .clock)))
       (returned-all returned (length (formsOf returned)) plan bus (plan .last .0) (omega arith) bus-same all (omega (arith, last-same, sound .late, until-same)))
 

@@ -8,7 +8,7 @@ use lib.ListN.{length, drop, length-append}
 use lib.Seq.{drop-at}
 use borrow.Author.Tests.{lt-ltb, le-ltb}
 use Rattle.words.specs.declared.times.Moment.{Moment}
-use Rattle.records.specs.Records.{formOf}
+use Rattle.records.specs.Records.{lastBus, formOf}
 use Rattle.records.specs.Files.{formsOf, openOf}
 use Rattle.records.specs.Theorems.{Fits}
 use Rattle.records.specs.declared.forms.WordRecord.{WordRecord}
@@ -24,18 +24,18 @@ ends-by n before bytes m l at-end = front-none n before [] refl
 ends-by zero before bytes m l (unread k some e) = absurd (omega (arith, l, some))
 ends-by (suc n) before bytes m l (unread k some e) =
     front-some n before bytes (λ z. omega (arith, some, z)) ∙ ap (λ (g : Read). frontWith before g (λ (time : ℕ). frontFrom n time (drop 16 bytes))) e
-ends-by zero before bytes m l (earlier r e late) = absurd (omega (arith, l, read-good bytes r e .long))
+ends-by zero before bytes m l (earlier r e late) = absurd (omega (arith, l, read-good lastBus bytes r e .long))
 ends-by (suc n) before bytes m l (earlier r e late) =
-    front-some n before bytes (λ z. omega (arith, read-good bytes r e .long, z))
+    front-some n before bytes (λ z. omega (arith, read-good lastBus bytes r e .long, z))
     ∙ ap (λ (g : Read). frontWith before g (λ (time : ℕ). frontFrom n time (drop 16 bytes))) e
     ∙ ap (λ (b : Bool). cond b (stops 6) (goesOn r (frontFrom n (r .time .0) (drop 16 bytes)))) (lt-ltb (r .time .0) before late)
 
 -- a record in order, read of its form, is taken
-takes : (n before : ℕ) (r : WordRecord) (after : List ℕ) → Fits r → before ≤ r .time .0
+takes : (n before : ℕ) (r : WordRecord) (after : List ℕ) → Fits lastBus r → before ≤ r .time .0
     → frontFrom (suc n) before (formOf r ++ after) ≡ goesOn r (frontFrom n (r .time .0) after)
 takes n before r after fits l =
     front-some n before (formOf r ++ after) (λ z. omega (arith, z, length-append (formOf r) after))
-    ∙ ap (λ (g : Read). frontWith before g (λ (time : ℕ). frontFrom n time (drop 16 (formOf r ++ after)))) (read-written r after fits)
+    ∙ ap (λ (g : Read). frontWith before g (λ (time : ℕ). frontFrom n time (drop 16 (formOf r ++ after)))) (read-written lastBus r after fits)
     ∙ ap (λ (b : Bool). cond b (stops 6) (goesOn r (frontFrom n (r .time .0) (drop 16 (formOf r ++ after))))) (le-ltb (r .time .0) before l)
     ∙ ap (λ (k : List ℕ). goesOn r (frontFrom n (r .time .0) k)) (drop-at (formOf r) after 16 refl)
 

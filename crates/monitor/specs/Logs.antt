@@ -7,7 +7,7 @@ use lib.ListN.{length, drop}
 use Rattle.words.specs.Words.{noResponseDistance}
 use Rattle.words.specs.Refusals.{notRefused, refusedOutOfOrder}
 use Rattle.words.specs.declared.times.Moment.{Moment}
-use Rattle.records.specs.Records.{recordBytes, readOf}
+use Rattle.records.specs.Records.{recordBytes, lastBus, readOf}
 use Rattle.records.specs.Files.{openOf}
 use Rattle.records.specs.declared.files.Opened.{Opened}
 use Rattle.records.specs.declared.files.Opened.the-variants as opened
@@ -127,7 +127,7 @@ frontWith before (read.Refused n) after = stops (n .0)
 unfoldable pub frontFrom : ℕ → ℕ → List ℕ → Front
 frontFrom zero before bytes = stops notRefused
 frontFrom (suc n) before bytes =
-    cond (eqb (length bytes) 0) (stops notRefused) (frontWith before (readOf bytes) (λ (time : ℕ). frontFrom n time (drop recordBytes bytes)))
+    cond (eqb (length bytes) 0) (stops notRefused) (frontWith before (readOf lastBus bytes) (λ (time : ℕ). frontFrom n time (drop recordBytes bytes)))
 
 unfoldable pub frontOf : List ℕ → Front
 frontOf bytes = frontFrom (length bytes) 0 bytes

@@ -11,7 +11,7 @@ use Rattle.words.specs.declared.times.Moment.{Moment}
 use Rattle.words.specs.declared.commands.CommandWord.{CommandWord}
 use Rattle.words.specs.declared.statuses.StatusWord.{StatusWord}
 use Rattle.words.specs.declared.refusals.Refusal.{Refusal}
-use Rattle.records.specs.Records.{recordBytes, readOf}
+use Rattle.records.specs.Records.{recordBytes, lastBus, readOf}
 use Rattle.records.specs.declared.forms.WordRecord.{WordRecord}
 use Rattle.records.specs.declared.forms.Read.{Read}
 use Rattle.records.specs.declared.forms.Read.the-variants as read
@@ -299,7 +299,7 @@ readWith w (read.Record r) = takenBy w r
 readWith w (read.Refused n) = stoppedBy w n
 
 unfoldable pub readBy : Walk → List ℕ → Side
-readBy w bytes = readWith w (readOf bytes)
+readBy w bytes = readWith w (readOf lastBus bytes)
 
 -- ---- a side, fed chunk by chunk
 

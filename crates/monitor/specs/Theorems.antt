@@ -7,7 +7,7 @@ use lib.Dec.{eqb}
 use lib.ListN.{length, drop}
 use Rattle.words.specs.Refusals.{notRefused, refusedOutOfOrder}
 use Rattle.words.specs.declared.refusals.Refusal.{Refusal}
-use Rattle.records.specs.Records.{recordBytes, readOf}
+use Rattle.records.specs.Records.{recordBytes, lastBus, readOf}
 use Rattle.records.specs.Files.{version, formsOf, fileOf}
 use Rattle.records.specs.Theorems.{Fits}
 use Rattle.records.specs.declared.forms.Read.the-variants as read
@@ -215,13 +215,13 @@ InOrder = (rs : List WordRecord) → Rise 0 (logOf rs) × ((bus : ℕ) → Each 
 -- records that can be written, none earlier than the one before it
 abbrev pub Written : ℕ → List WordRecord → Type 0
 Written before [] = Unit {0}
-Written before (r ∷ rs) = Fits r × (before ≤ r .time .0) × Written (r .time .0) rs
+Written before (r ∷ rs) = Fits lastBus r × (before ≤ r .time .0) × Written (r .time .0) rs
 
 -- what stands behind a record of that time, and the refusal that ends the log there: no byte; bytes that the reader refuses; a record that is earlier
 pub data EndsBy (before : ℕ) : List ℕ → ℕ → Type 0 where
   at-end : EndsBy before [] notRefused
-  unread : {bytes : List ℕ} (n : Refusal) → 0 < length bytes → readOf bytes ≡ read.Refused n → EndsBy before bytes (n .0)
-  earlier : {bytes : List ℕ} (r : WordRecord) → readOf bytes ≡ read.Record r → r .time .0 < before → EndsBy before bytes refusedOutOfOrder
+  unread : {bytes : List ℕ} (n : Refusal) → 0 < length bytes → readOf lastBus bytes ≡ read.Refused n → EndsBy before bytes (n .0)
+  earlier : {bytes : List ℕ} (r : WordRecord) → readOf lastBus bytes ≡ read.Record r → r .time .0 < before → EndsBy before bytes refusedOutOfOrder
 
 -- A file gives the log of the records before the first that is refused, whatever stands behind them: log-stays
 abbrev pub LogStays : Type 0

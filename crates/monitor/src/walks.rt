@@ -7,6 +7,7 @@ use crate::entries::Logged;
 use crate::entries::is_command;
 use crate::openings::Opening;
 use crate::openings::Part;
+use records::LAST_BUS;
 use records::Read;
 use records::WordRecord;
 use records::read_record;
@@ -196,7 +197,7 @@ impl Walk {
     pub(crate) fn read(self, bytes: &[u8]) -> Side
         ensures side { λ r. ⌜ r ≡ readBy self (now (bytes .entry)) ⌝ }
     {
-        match read_record(bytes) {
+        match read_record(bytes, LAST_BUS) {
             Read::Record(heard) => self.take(heard),
             Read::Refused(refusal) => self.stop(refusal),
         }

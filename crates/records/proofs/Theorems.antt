@@ -1,87 +1,67 @@
 -- What readers and writers of records may rely on. Assumes nothing.
 use mathlib.Core.Path.{_≡_, refl, sym, ap, ap₂, subst, _∙_}
-use mathlib.Core.Bool.{Bool, true, false, cond, _&&_}
+use mathlib.Core.Bool.{Bool, true, false, cond}
 use Prim.Native.Nat.{ℕ, zero, suc, _^_, _<_, _≤_}
 use native.Mathlib.Nat.{le-of-suc-le-suc, not-suc-le-zero}
 use native.Mathlib.Omega.{arith}
 use mathlib.Core.List.{List, [], _∷_, _++_}
 use lib.ListN.{length, getD, take, drop, length-append, length-take, length-drop}
 use lib.Seq.{take-append-le}
-use lib.Dec.{ltb, leb, eqb}
-use borrow.Author.Tests.{ltb-true, ltb-false, eqb-true, le-ltb}
-use Rattle.words.proofs.Truth.{and-both}
-use Rattle.words.specs.Words.{onClock}
+use lib.Dec.{ltb, eqb}
+use borrow.Author.Tests.{ltb-false, eqb-true, le-ltb}
 use Rattle.records.specs.Numbers.{numberAfter, numberOf, bytesOf}
-use Rattle.records.specs.Records.{inRange, recordAt, readOf, formOf, writeRefusal, writtenOf}
+use Rattle.records.specs.Records.{lastBus, inRange, recordAt, readOf, formOf, writeRefusal, writtenOf}
 use Rattle.records.specs.Theorems.{Bytes, ReadWritten, WriteRead, OnlyForm, ReadFits, OneForm, RefusedExactly}
 use Rattle.records.specs.declared.forms.WordRecord.{WordRecord}
 use Rattle.records.specs.declared.forms.Read.the-variants.{Record, Refused}
-use Rattle.records.proofs.Digits.{number-lt, number-bytes, bytes-number}
+use Rattle.records.proofs.Digits.{bytes-take, bytes-drop, number-lt, number-bytes, bytes-number}
+use Rattle.records.proofs.Ranges.{in-range-time}
 use Rattle.records.proofs.Cases.{short, bad-length, bad-field, good, written}
 
 -- ---- which bytes are read
 
 pub refused-exactly : RefusedExactly
-refused-exactly bytes = record {
-  short = λ l. sym (short bytes l);
-  length-wrong = λ l h. sym (bad-length bytes l refl h);
-  out-of-range = λ l h f. sym (bad-field bytes l refl h refl refl f);
-  no-other = λ l h f. sym (good bytes l refl h refl refl f);
+refused-exactly last bytes = record {
+  short = λ l. sym (short last bytes l);
+  length-wrong = λ l h. sym (bad-length last bytes l refl h);
+  out-of-range = λ l h f. sym (bad-field last bytes l refl h refl refl f);
+  no-other = λ l h f. sym (good last bytes l refl h refl refl f);
 }
-
--- a time in range fits eight bytes
-time-lt : (r : WordRecord) → inRange r ≡ true → r .time .0 < 2 ^ 48
-time-lt r h =
-    let tests-4 = and-both (onClock (r .time .0) && leb (r .bus) 1 && leb (r .sync) 2 && leb (r .faults) 3) (leb (r .parity) 1) h in
-    let tests-3 = and-both (onClock (r .time .0) && leb (r .bus) 1 && leb (r .sync) 2) (leb (r .faults) 3) (tests-4 .0) in
-    let tests-2 = and-both (onClock (r .time .0) && leb (r .bus) 1) (leb (r .sync) 2) (tests-3 .0) in
-    ltb-true (r .time .0) (2 ^ 48) (and-both (onClock (r .time .0)) (leb (r .bus) 1) (tests-2 .0) .0)
 
 pub read-written : ReadWritten
 unfolding numberAfter
-read-written r after fits =
+read-written last r after fits =
     let s = formOf r ++ after in
-    let time : r .time .0 < 256 ^ 8 = omega (arith, time-lt r (fits .in-range)) in
+    let time : r .time .0 < 256 ^ 8 = omega (arith, in-range-time last r (fits .in-range)) in
     let back : recordAt s ≡ r = rw (number-bytes 8 (r .time .0) time, number-bytes 2 (r .word) (fits .sixteen)) in
-    refused-exactly s .no-other (omega arith) refl (ap inRange back ∙ fits .in-range) ∙ ap Record back
+    refused-exactly last s .no-other (omega arith) refl (ap (inRange last) back ∙ fits .in-range) ∙ ap Record back
 
 pub write-read : WriteRead
 unfolding writtenOf
 write-read r bytes fits l =
     let none : writeRefusal r bytes ≡ 0 = sym (written r bytes l refl (fits .in-range)) in
-    (none, rw none (read-written r (drop 16 bytes) fits), rw none refl)
+    (none, rw none (read-written lastBus r (drop 16 bytes) fits), rw none refl)
 
 -- ---- one form
 
 -- what a read that gives a record shows
-pub record Good (s : List ℕ) (r : WordRecord) : Type 0 where
+pub record Good (last : ℕ) (s : List ℕ) (r : WordRecord) : Type 0 where
   pub long : 16 ≤ length s
   pub length-right : numberOf (take 2 s) ≡ 14
-  pub in-range : inRange (recordAt s) ≡ true
+  pub in-range : inRange last (recordAt s) ≡ true
   pub same : recordAt s ≡ r
 
-good-by : (s : List ℕ) (r : WordRecord) (a b e : Bool) → ltb (length s) 16 ≡ a → eqb (numberOf (take 2 s)) 14 ≡ b → inRange (recordAt s) ≡ e
-    → cond a (Refused (record { 0 = 3 })) (cond b (cond e (Record (recordAt s)) (Refused (record { 0 = 5 }))) (Refused (record { 0 = 4 }))) ≡ Record r → Good s r
-good-by s r true b e p q t h = let z : _≡_ {A = ℕ} 0 1 = cc in absurd (omega arith)
-good-by s r false false e p q t h = let z : _≡_ {A = ℕ} 0 1 = cc in absurd (omega arith)
-good-by s r false true false p q t h = let z : _≡_ {A = ℕ} 0 1 = cc in absurd (omega arith)
-good-by s r false true true p q t h =
+good-by : (last : ℕ) (s : List ℕ) (r : WordRecord) (a b e : Bool) → ltb (length s) 16 ≡ a → eqb (numberOf (take 2 s)) 14 ≡ b → inRange last (recordAt s) ≡ e
+    → cond a (Refused (record { 0 = 3 })) (cond b (cond e (Record (recordAt s)) (Refused (record { 0 = 5 }))) (Refused (record { 0 = 4 }))) ≡ Record r → Good last s r
+good-by last s r true b e p q t h = let z : _≡_ {A = ℕ} 0 1 = cc in absurd (omega arith)
+good-by last s r false false e p q t h = let z : _≡_ {A = ℕ} 0 1 = cc in absurd (omega arith)
+good-by last s r false true false p q t h = let z : _≡_ {A = ℕ} 0 1 = cc in absurd (omega arith)
+good-by last s r false true true p q t h =
     record { long = ltb-false (length s) 16 p; length-right = eqb-true (numberOf (take 2 s)) 14 q; in-range = t; same = cc }
 
-pub read-good : (s : List ℕ) (r : WordRecord) → readOf s ≡ Record r → Good s r
+pub read-good : (last : ℕ) (s : List ℕ) (r : WordRecord) → readOf last s ≡ Record r → Good last s r
 unfolding readOf
-read-good s r h = good-by s r (ltb (length s) 16) (eqb (numberOf (take 2 s)) 14) (inRange (recordAt s)) refl refl refl h
-
-pub bytes-take : (n : ℕ) (s : List ℕ) → Bytes s → Bytes (take n s)
-bytes-take zero s h i = omega arith
-bytes-take (suc n) [] h i = omega arith
-bytes-take (suc n) (x ∷ s) h zero = h 0
-bytes-take (suc n) (x ∷ s) h (suc i) = bytes-take n s (λ j. h (suc j)) i
-
-pub bytes-drop : (n : ℕ) (s : List ℕ) → Bytes s → Bytes (drop n s)
-bytes-drop zero s h i = h i
-bytes-drop (suc n) [] h i = omega arith
-bytes-drop (suc n) (x ∷ s) h i = bytes-drop n s (λ j. h (suc j)) i
+read-good last s r h = good-by last s r (ltb (length s) 16) (eqb (numberOf (take 2 s)) 14) (inRange last (recordAt s)) refl refl refl h
 
 -- a list with its first n elements written out
 abbrev heads : ℕ → List ℕ → List ℕ
@@ -94,16 +74,16 @@ heads-same (suc n) [] l = absurd (not-suc-le-zero l)
 heads-same (suc n) (x ∷ s) l = ap (λ (k : List ℕ). x ∷ k) (heads-same n s (le-of-suc-le-suc l))
 
 -- what stands after a record is not looked at
-pub read-front : (s after : List ℕ) → 16 ≤ length s → readOf (s ++ after) ≡ readOf s
+pub read-front : (last : ℕ) (s after : List ℕ) → 16 ≤ length s → readOf last (s ++ after) ≡ readOf last s
 unfolding readOf
-read-front s after l =
+read-front last s after l =
     let long : 16 ≤ length (s ++ after) = omega (arith, length-append s after) in
     let record-same : recordAt (s ++ after) ≡ recordAt s =
     subst (λ (k : List ℕ). recordAt (k ++ after) ≡ recordAt k) (sym (heads-same 16 s l)) refl in
     let length-same : take 2 (s ++ after) ≡ take 2 s = take-append-le 2 s after (omega arith) in
     rw (le-ltb _ _ long, le-ltb _ _ l)
     (ap₂
-    (λ (two : List ℕ) (r : WordRecord). cond (eqb (numberOf two) 14) (cond (inRange r) (Record r) (Refused (record { 0 = 5 }))) (Refused (record { 0 = 4 })))
+    (λ (two : List ℕ) (r : WordRecord). cond (eqb (numberOf two) 14) (cond (inRange last r) (Record r) (Refused (record { 0 = 5 }))) (Refused (record { 0 = 4 })))
     length-same record-same)
 
 -- 16 bytes with the right length are the form of the record that they spell
@@ -118,8 +98,8 @@ spelled-form s l =
     cc)
 
 pub only-form : OnlyForm
-only-form bytes r h e =
-    let g = read-good bytes r e in
+only-form last bytes r h e =
+    let g = read-good last bytes r e in
     spelled-form bytes (g .long) h (g .length-right) ∙ ap formOf (g .same)
 
 -- a word of two bytes
@@ -130,9 +110,9 @@ word-lt s l h =
     rw two at below
 
 pub read-fits : ReadFits
-read-fits bytes r h e =
-    let g = read-good bytes r e in
-    record { in-range = ap inRange (sym (g .same)) ∙ g .in-range; sixteen = subst (λ (x : WordRecord). x .word < 2 ^ 16) (g .same) (word-lt bytes (g .long) h) }
+read-fits last bytes r h e =
+    let g = read-good last bytes r e in
+    record { in-range = ap (inRange last) (sym (g .same)) ∙ g .in-range; sixteen = subst (λ (x : WordRecord). x .word < 2 ^ 16) (g .same) (word-lt bytes (g .long) h) }
 
 pub one-form : OneForm
-one-form bytes others r h k e f = only-form bytes r h e ∙ sym (only-form others r k f)
+one-form last bytes others r h k e f = only-form last bytes r h e ∙ sym (only-form last others r k f)

@@ -18,10 +18,15 @@ lengthNumber = 14
 abbrev pub recordBytes : ℕ
 recordBytes = 16
 
--- "time (8), bus (1: 0 is A, 1 is B), sync (1: 0 command/status, 1 data, 2 neither), receiver faults (1: 1 Manchester, 2 bit count, 3 both,
--- 0 none), word (2), parity bit (1)": which numbers are in range. A time is "0 to 2^48 - 1", a parity bit 0 or 1, the word any of 16 bits.
-abbrev pub inRange : WordRecord → Bool
-inRange r = onClock (r .time .0) && leb (r .bus) 1 && leb (r .sync) 2 && leb (r .faults) 3 && leb (r .parity) 1
+-- "bus (1: 0 is A, 1 is B)": the last bus of a record that is in no file.
+abbrev pub lastBus : ℕ
+lastBus = 1
+
+-- "time (8), bus (1: ..), sync (1: 0 command/status, 1 data, 2 neither), receiver faults (1: 1 Manchester, 2 bit count, 3 both, 0 none), word
+-- (2), parity bit (1)": which numbers are in range where `last` is the last bus. A time is "0 to 2^48 - 1", a parity bit 0 or 1, the word any
+-- of 16 bits.
+abbrev pub inRange : ℕ → WordRecord → Bool
+inRange last r = onClock (r .time .0) && leb (r .bus) last && leb (r .sync) 2 && leb (r .faults) 3 && leb (r .parity) 1
 
 -- "Each record: length (2 bytes, always 14), time (8), bus (1: ..), sync (1: ..), receiver faults (1: ..), word (2), parity bit (1)."
 abbrev pub formOf : WordRecord → List ℕ
@@ -39,12 +44,12 @@ recordAt bytes = record {
   parity = getD bytes 15 0;
 }
 
--- Reading: "fewer than 16 bytes for a record" 3, "record length not 14" 4, "a field or a time out of range" 5.
-unfoldable pub readOf : List ℕ → Read
-readOf bytes =
+-- Reading, where `last` is the last bus: "fewer than 16 bytes for a record" 3, "record length not 14" 4, "a field or a time out of range" 5.
+unfoldable pub readOf : ℕ → List ℕ → Read
+readOf last bytes =
     cond (ltb (length bytes) recordBytes) (Refused (record { 0 = refusedShortRecord }))
     (cond (eqb (numberOf (take 2 bytes)) lengthNumber)
-    (cond (inRange (recordAt bytes)) (Record (recordAt bytes)) (Refused (record { 0 = refusedOutOfRange })))
+    (cond (inRange last (recordAt bytes)) (Record (recordAt bytes)) (Refused (record { 0 = refusedOutOfRange })))
     (Refused (record { 0 = refusedRecordLength })))
 
 -- The number of a refusal, 0 where there is none.
@@ -54,7 +59,7 @@ refusalOf (Refused n) = n .0
 
 -- "Writing: 9, 5.": "fewer than 16 bytes to write a record", then "a field or a time out of range".
 unfoldable pub writeRefusal : WordRecord → List ℕ → ℕ
-writeRefusal r bytes = cond (ltb (length bytes) recordBytes) refusedNoRoom (cond (inRange r) notRefused refusedOutOfRange)
+writeRefusal r bytes = cond (ltb (length bytes) recordBytes) refusedNoRoom (cond (inRange lastBus r) notRefused refusedOutOfRange)
 
 -- The first 16 bytes are the form, all others as before. "A refusal gives its number and nothing else; state, tables and buffers stay."
 unfoldable pub writtenOf : WordRecord → List ℕ → List ℕ

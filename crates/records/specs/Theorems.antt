@@ -7,11 +7,12 @@ use mathlib.Core.List.{List, [], _∷_, _++_}
 use lib.ListN.{length, getD, take, drop}
 use Rattle.words.specs.Refusals.{notRefused, refusedShortRecord, refusedRecordLength, refusedOutOfRange, refusedWrongVersion}
 use Rattle.records.specs.Numbers.{numberOf}
-use Rattle.records.specs.Records.{recordBytes, inRange, formOf, recordAt, readOf, writeRefusal, writtenOf}
-use Rattle.records.specs.Files.{version, fileOf, nextOf, Walk, whole, stops, with, walkFrom, walkOf}
+use Rattle.records.specs.Records.{recordBytes, lastBus, inRange, formOf, recordAt, readOf, writeRefusal, writtenOf}
+use Rattle.records.specs.Files.{version, lastBusOf, fileOf, nextOf, Walk, whole, stops, with, walkFrom, walkOf}
 use Rattle.words.specs.declared.refusals.Refusal.{Refusal}
 use Rattle.records.specs.declared.forms.WordRecord.{WordRecord}
 use Rattle.records.specs.declared.forms.Read.the-variants.{Record, Refused}
+use Rattle.records.specs.declared.files.Cursor.{Cursor}
 use Rattle.records.specs.declared.files.Next.{Next}
 use Rattle.records.specs.declared.files.Next.the-variants as next
 
@@ -19,64 +20,67 @@ use Rattle.records.specs.declared.files.Next.the-variants as next
 abbrev pub Bytes : List ℕ → Type 0
 Bytes bytes = (i : ℕ) → getD bytes i 0 < 256
 
--- A record that can be written: in range, its word of 16 bits.
-pub record Fits (r : WordRecord) : Type 0 where
-  pub in-range : inRange r ≡ true
+-- A record that can be written where `last` is the last bus: in range, its word of 16 bits.
+pub record Fits (last : ℕ) (r : WordRecord) : Type 0 where
+  pub in-range : inRange last r ≡ true
   pub sixteen : r .word < 2 ^ 16
 
-abbrev pub AllFit : List WordRecord → Type 0
-AllFit [] = Unit {0}
-AllFit (r ∷ rs) = Fits r × AllFit rs
+abbrev pub AllFit : ℕ → List WordRecord → Type 0
+AllFit last [] = Unit {0}
+AllFit last (r ∷ rs) = Fits last r × AllFit last rs
 
 -- A written form, whatever stands after it, is read as its record: read-written
 abbrev pub ReadWritten : Type 0
-ReadWritten = (r : WordRecord) (after : List ℕ) → Fits r → readOf (formOf r ++ after) ≡ Record r
+ReadWritten = (last : ℕ) (r : WordRecord) (after : List ℕ) → Fits last r → readOf last (formOf r ++ after) ≡ Record r
 
 -- Writing such a record where there is room is not refused, is read back, and leaves all bytes behind the first 16: write-read
 abbrev pub WriteRead : Type 0
 WriteRead =
-    (r : WordRecord) (bytes : List ℕ) → Fits r → recordBytes ≤ length bytes
+    (r : WordRecord) (bytes : List ℕ) → Fits lastBus r → recordBytes ≤ length bytes
     → (writeRefusal r bytes ≡ notRefused)
-    × (readOf (writtenOf r bytes) ≡ Record r)
+    × (readOf lastBus (writtenOf r bytes) ≡ Record r)
     × (drop recordBytes (writtenOf r bytes) ≡ drop recordBytes bytes)
 
 -- Bytes that are read as a record are its written form: only-form
 abbrev pub OnlyForm : Type 0
-OnlyForm = (bytes : List ℕ) (r : WordRecord) → Bytes bytes → readOf bytes ≡ Record r → take 16 bytes ≡ formOf r
+OnlyForm = (last : ℕ) (bytes : List ℕ) (r : WordRecord) → Bytes bytes → readOf last bytes ≡ Record r → take 16 bytes ≡ formOf r
 
--- What is read can be written: read-fits
+-- What is read fits, so what is read with the last bus of a record in no file can be written: read-fits
 abbrev pub ReadFits : Type 0
-ReadFits = (bytes : List ℕ) (r : WordRecord) → Bytes bytes → readOf bytes ≡ Record r → Fits r
+ReadFits = (last : ℕ) (bytes : List ℕ) (r : WordRecord) → Bytes bytes → readOf last bytes ≡ Record r → Fits last r
 
 -- So no two byte forms are read as one record: one-form
 abbrev pub OneForm : Type 0
 OneForm =
-    (bytes others : List ℕ) (r : WordRecord) → Bytes bytes → Bytes others → readOf bytes ≡ Record r → readOf others ≡ Record r
+    (last : ℕ) (bytes others : List ℕ) (r : WordRecord) → Bytes bytes → Bytes others → readOf last bytes ≡ Record r → readOf last others ≡ Record r
     → take 16 bytes ≡ take 16 others
 
 -- Which bytes are refused, with which number, and that no others are: refused-exactly
-pub record ReadCases (bytes : List ℕ) : Type 0 where
-  pub short : length bytes < 16 → readOf bytes ≡ Refused (record { 0 = refusedShortRecord })
-  pub length-wrong : 16 ≤ length bytes → (numberOf (take 2 bytes) ≡ 14 → ⊥) → readOf bytes ≡ Refused (record { 0 = refusedRecordLength })
-  pub out-of-range : 16 ≤ length bytes → numberOf (take 2 bytes) ≡ 14 → inRange (recordAt bytes) ≡ false → readOf bytes ≡ Refused (record { 0 = refusedOutOfRange })
-  pub no-other : 16 ≤ length bytes → numberOf (take 2 bytes) ≡ 14 → inRange (recordAt bytes) ≡ true → readOf bytes ≡ Record (recordAt bytes)
+pub record ReadCases (last : ℕ) (bytes : List ℕ) : Type 0 where
+  pub short : length bytes < 16 → readOf last bytes ≡ Refused (record { 0 = refusedShortRecord })
+  pub length-wrong : 16 ≤ length bytes → (numberOf (take 2 bytes) ≡ 14 → ⊥) → readOf last bytes ≡ Refused (record { 0 = refusedRecordLength })
+  pub out-of-range : 16 ≤ length bytes → numberOf (take 2 bytes) ≡ 14 → inRange last (recordAt bytes) ≡ false → readOf last bytes ≡ Refused (record { 0 = refusedOutOfRange })
+  pub no-other : 16 ≤ length bytes → numberOf (take 2 bytes) ≡ 14 → inRange last (recordAt bytes) ≡ true → readOf last bytes ≡ Record (recordAt bytes)
 
 abbrev pub RefusedExactly : Type 0
-RefusedExactly = (bytes : List ℕ) → ReadCases bytes
+RefusedExactly = (last : ℕ) (bytes : List ℕ) → ReadCases last bytes
 
 -- What a step of the cursor adds to the walk from the place after it.
-abbrev pub stepOf : Next → (ℕ → Walk) → Walk
-stepOf (next.Record r c) rest = with r (rest (c .at))
+abbrev pub stepOf : Next → (Cursor → Walk) → Walk
+stepOf (next.Record r c) rest = with r (rest c)
 stepOf next.End rest = whole []
 stepOf (next.Refused n) rest = stops n
 
 -- The cursor's steps are those of the walk over the whole file: next-walk
 abbrev pub NextWalk : Type 0
-NextWalk = (file : List ℕ) (at n : ℕ) → walkFrom (suc n) (drop at file) ≡ stepOf (nextOf file at) (λ (place : ℕ). walkFrom n (drop place file))
+NextWalk =
+    (file : List ℕ) (c : Cursor) (n : ℕ)
+    → walkFrom (c .«last_bus») (suc n) (drop (c .at) file)
+    ≡ stepOf (nextOf file c) (λ (place : Cursor). walkFrom (place .«last_bus») n (drop (place .at) file))
 
 -- A written file is read as its records: file-written
 abbrev pub FileWritten : Type 0
-FileWritten = (rs : List WordRecord) → AllFit rs → walkOf (fileOf rs) ≡ whole rs
+FileWritten = (rs : List WordRecord) → AllFit (lastBusOf version) rs → walkOf (fileOf rs) ≡ whole rs
 
 -- And only that file is: only-file
 abbrev pub OnlyFile : Type 0
@@ -87,7 +91,7 @@ OnlyFile = (file : List ℕ) (rs : List WordRecord) → Bytes file → walkOf fi
 pub record FileStops : Type 0 where
   pub no-byte : walkOf [] ≡ stops (record { 0 = refusedWrongVersion })
   pub other-version : (first : ℕ) (rest : List ℕ) → (first ≡ version → ⊥) → walkOf (first ∷ rest) ≡ stops (record { 0 = refusedWrongVersion })
-  pub at-record : (rs : List WordRecord) (rest : List ℕ) (n : Refusal) → AllFit rs → 0 < length rest → readOf rest ≡ Refused n → walkOf (fileOf rs ++ rest) ≡ stops n
+  pub at-record : (rs : List WordRecord) (rest : List ℕ) (n : Refusal) → AllFit (lastBusOf version) rs → 0 < length rest → readOf (lastBusOf version) rest ≡ Refused n → walkOf (fileOf rs ++ rest) ≡ stops n
 
 -- "A file of one record, time 1000, bus A, command 2842, parity 1, is whole: `01 00 0E 00 00 00 00 00 00 03 E8 00 00 00 28 42 01`": example
 abbrev pub exampleRecord : WordRecord

@@ -4,7 +4,8 @@ ghost use mathlib.Core.Path.{_≡_};
 ghost use Prim.Native.Nat.{_≤_};
 ghost use lib.ListN.{length};
 ghost use Rattle.records.specs.Records.{inRange, formOf, recordAt, readOf, writeRefusal, writtenOf};
-use crate::numbers::number;
+use crate::numbers::number_eight;
+use crate::numbers::number_two;
 use words::Moment;
 use words::Refusal;
 
@@ -12,6 +13,9 @@ use words::Refusal;
 const LENGTH: u64 = 14;
 
 pub const RECORD_BYTES: usize = 16;
+
+// "bus (1: 0 is A, 1 is B)": the last bus of a record that is in no file.
+pub const LAST_BUS: u8 = 1;
 
 // A word as the receiver handed it over. Any numbers fit; `in_range` says which can be written and read.
 pub struct WordRecord {
@@ -24,13 +28,13 @@ pub struct WordRecord {
 }
 
 impl WordRecord {
-    // Says whether the time and every field are in range.
+    // Says whether the time and every field are in range, the bus at most the last one.
     // Tables: none. Refusals: none.
-    pub fn in_range(self) -> bool
-        ensures answer { λ r. ⌜ r ≡ inRange self ⌝ }
+    pub fn in_range(self, last_bus: u8) -> bool
+        ensures answer { λ r. ⌜ r ≡ inRange «last_bus» self ⌝ }
     {
         self.time.on_clock()
-            & (self.bus <= 1)
+            & (self.bus <= last_bus)
             & (self.sync <= 2)
             & (self.faults <= 3)
             & (self.parity <= 1)
@@ -79,7 +83,7 @@ impl WordRecord {
         if bytes.len() < RECORD_BYTES {
             return Refusal::NO_ROOM;
         }
-        if self.in_range() {
+        if self.in_range(LAST_BUS) {
             let form = self.form();
             bytes::copy(&form, bytes);
             Refusal::NONE
@@ -100,8 +104,8 @@ fn spelled(bytes: &[u8]) -> WordRecord
     requires { ⌜ 16 ≤ length (now bytes) ⌝ }
     ensures record { λ r. ⌜ r ≡ recordAt (now (bytes .entry)) ⌝ }
 {
-    let time = number(&bytes[2..10]);
-    let word = number(&bytes[13..15]);
+    let time = number_eight(&bytes[2..]);
+    let word = number_two(&bytes[13..]);
     WordRecord {
         time: Moment(time),
         bus: bytes[10],
@@ -112,19 +116,19 @@ fn spelled(bytes: &[u8]) -> WordRecord
     }
 }
 
-// Gives the record at the front of the bytes; what stands after it is not looked at.
+// Gives the record at the front of the bytes, the bus at most the last one; what stands after it is not looked at.
 // Tables: bytes is only read. Refusals: 3, fewer than 16 bytes; 4, length not 14; 5, a field or the time out of range.
-pub fn read_record(bytes: &[u8]) -> Read
-    ensures read { λ r. ⌜ r ≡ readOf (now (bytes .entry)) ⌝ }
+pub fn read_record(bytes: &[u8], last_bus: u8) -> Read
+    ensures read { λ r. ⌜ r ≡ readOf «last_bus» (now (bytes .entry)) ⌝ }
 {
     if bytes.len() < RECORD_BYTES {
         return Read::Refused(Refusal::SHORT_RECORD);
     }
-    if number(&bytes[0..2]) != LENGTH {
+    if number_two(bytes) != LENGTH {
         return Read::Refused(Refusal::RECORD_LENGTH);
     }
     let record = spelled(bytes);
-    if record.in_range() {
+    if record.in_range(last_bus) {
         Read::Record(record)
     } else {
         Read::Refused(Refusal::OUT_OF_RANGE)

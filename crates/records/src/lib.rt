@@ -11,6 +11,7 @@ pub use files::Opened;
 pub use files::VERSION;
 pub use files::count_records;
 pub use files::open_file;
+pub use forms::LAST_BUS;
 pub use forms::RECORD_BYTES;
 pub use forms::Read;
 pub use forms::WordRecord;

@@ -8,7 +8,7 @@ use lib.ListN.{length, getD, take, drop, length-take}
 use lib.Seq.{take-all}
 use borrow.Author.Tests.{eq-eqb, ne-eqb}
 use Rattle.words.specs.declared.refusals.Refusal.{Refusal}
-use Rattle.records.specs.Records.{readOf}
+use Rattle.records.specs.Records.{lastBus, readOf}
 use Rattle.records.specs.declared.forms.WordRecord.{WordRecord}
 use Rattle.records.specs.declared.forms.Read.{Read}
 use Rattle.records.specs.declared.forms.Read.the-variants.{Record, Refused}
@@ -28,7 +28,7 @@ use Rattle.salvage.specs.declared.salvages.Ended.the-variants.{Whole, Ea
 
 -- ---- what becomes of the bytes at a place; g is what the code read
 
-module _ (last : Last) (s : List ℕ) (g : Read) (e : g ≡ readOf s) where
+module _ (last : Last) (s : List ℕ) (g : Read) (e : g ≡ readOf lastBus s) where
   pub choice-refused : (n : Refusal) → g ≡ Refused n → Skips ≡ choiceOf last s
   unfolding choiceOf
   choice-refused n q = ap (chosen last) (sym q ∙ e)

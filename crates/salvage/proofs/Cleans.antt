@@ -10,8 +10,8 @@ use lib.Seq.{length-take-le, drop-at}
 use borrow.Author.Tests.{eqb-true}
 use Rattle.words.specs.declared.refusals.Refusal.{Refusal}
 use Rattle.words.specs.declared.times.Moment.{Moment}
-use Rattle.records.specs.Records.{recordAt, readOf}
-use Rattle.records.specs.Files.{openOf, Walk, whole, stops, goOn, walkFrom, walkAt, walkOf}
+use Rattle.records.specs.Records.{lastBus, recordAt, readOf}
+use Rattle.records.specs.Files.{lastBusOf, openOf, Walk, whole, stops, goOn, walkFrom, walkAt, walkOf}
 use Rattle.records.specs.declared.forms.WordRecord.{WordRecord}
 use Rattle.records.specs.declared.forms.Read.{Read}
 use Rattle.records.specs.declared.forms.Read.the-variants.{Record, Refused}
@@ -28,14 +28,14 @@ use Rattle.salvage.proofs.Fronts.{found, front-read, front-record, choi
 -- ---- what is kept reads
 
 record Reads (last : Last) (ps : List Piece) : Type 0 where
-  walk : (n : ℕ) → length (keptBytes ps) ≤ n → walkFrom n (keptBytes ps) ≡ whole (keptRecords ps)
+  walk : (n : ℕ) → length (keptBytes ps) ≤ n → walkFrom lastBus n (keptBytes ps) ≡ whole (keptRecords ps)
   order : InOrder last (keptRecords ps)
 
 reads-kept : (last : Last) (s : List ℕ) (t : Moment) (ps : List Piece) → InTime last s t → 16 ≤ length s → Reads (At t) ps → Reads last (kept (take 16 s) ∷ ps)
 reads-kept last s t ps f l rest =
     let front = take 16 s in
     let sixteen : length front ≡ 16 = length-take-le 16 s l in
-    let read : (more : List ℕ) → readOf (front ++ more) ≡ Record (f .r) = λ more. front-read s more l ∙ f .reads in
+    let read : (more : List ℕ) → readOf lastBus (front ++ more) ≡ Record (f .r) = λ more. front-read s more l ∙ f .reads in
     let record-is : recordAt front ≡ f .r = front-record last s t f l in
     let time-is : recordAt front .time ≡ t = ap (λ (r : WordRecord). r .time) record-is ∙ f .timed in
     record {
@@ -46,16 +46,16 @@ reads-kept last s t ps f l rest =
       );
     }
   where
-    walk-on : (front more : List ℕ) (rs : List WordRecord) (r r′ : WordRecord) → length front ≡ 16 → readOf (front ++ more) ≡ Record r → r′ ≡ r
-        → ((n : ℕ) → length more ≤ n → walkFrom n more ≡ whole rs) → (n : ℕ) → length (front ++ more) ≤ n → walkFrom n (front ++ more) ≡ whole (r′ ∷ rs)
+    walk-on : (front more : List ℕ) (rs : List WordRecord) (r r′ : WordRecord) → length front ≡ 16 → readOf lastBus (front ++ more) ≡ Record r → r′ ≡ r
+        → ((n : ℕ) → length more ≤ n → walkFrom lastBus n more ≡ whole rs) → (n : ℕ) → length (front ++ more) ≤ n → walkFrom lastBus n (front ++ more) ≡ whole (r′ ∷ rs)
     walk-on front more rs r r′ sixteen e h w zero l = absurd (omega (arith, length-append front more))
     walk-on front more rs r r′ sixteen e h w (suc n) l =
-        walk-some n (front ++ more) (omega (arith, length-append front more))
-        ∙ ap₂ goOn e (ap (walkFrom n) (drop-at front more 16 sixteen) ∙ w n (omega (arith, length-append front more)))
+        walk-some lastBus n (front ++ more) (omega (arith, length-append front more))
+        ∙ ap₂ goOn e (ap (walkFrom lastBus n) (drop-at front more 16 sixteen) ∙ w n (omega (arith, length-append front more)))
         ∙ ap (λ (x : WordRecord). whole (x ∷ rs)) (sym h)
 
 reads-none : (last : Last) → Reads last []
-reads-none last = record { walk = λ n l. walk-none n; order = tt }
+reads-none last = record { walk = λ n l. walk-none lastBus n; order = tt }
 
 reads-by : (fuel : ℕ) (last : Last) (s : List ℕ) → length s ≤ fuel → Reads last (piecesFrom 0 last s)
 unfolding piecesFrom
@@ -92,7 +92,7 @@ not-whole : (n : Refusal) (rs : List WordRecord) → stops n ≡ whole rs → �
 not-whole n rs h = let z : _≡_ {A = ℕ} 0 1 = cc in omega arith
 
 -- a record at the front that is in time
-stays-kept : (last : Last) (s : List ℕ) (r : WordRecord) → readOf s ≡ Record r → inTime last (r .time .0) ≡ true → Stays (At (r .time)) (drop 16 s) → Stays last s
+stays-kept : (last : Last) (s : List ℕ) (r : WordRecord) → readOf lastBus s ≡ Record r → inTime last (r .time .0) ≡ true → Stays (At (r .time)) (drop 16 s) → Stays last s
 stays-kept last s r e h rest =
     let choice : choiceOf last s ≡ Keeps (r .time) = sym (choice-kept last s (Record r) (sym e) r true refl (sym h) refl) in
     let pieces = pieces-keep last s (r .time) choice in
@@ -101,16 +101,16 @@ stays-kept last s r e h rest =
       no-run = λ place. ap (runsFrom place 0) pieces ∙ rest .no-run (place + 0 + 16);
     }
 
-stays-by : (n : ℕ) (last : Last) (s : List ℕ) (rs : List WordRecord) → length s ≤ n → walkFrom n s ≡ whole rs → InOrder last rs → Stays last s
+stays-by : (n : ℕ) (last : Last) (s : List ℕ) (rs : List WordRecord) → length s ≤ n → walkFrom lastBus n s ≡ whole rs → InOrder last rs → Stays last s
 stays-by zero last [] rs l w order = stays-none last
 stays-by zero last (x ∷ s) rs l w order = absurd (omega arith)
 stays-by (suc n) last [] rs l w order = stays-none last
 stays-by (suc n) last (x ∷ s) rs l w order =
-    by (readOf (x ∷ s)) (walkFrom n (drop 16 (x ∷ s))) rs refl refl order (sym (walk-some n (x ∷ s) (omega arith)) ∙ w)
+    by (readOf lastBus (x ∷ s)) (walkFrom lastBus n (drop 16 (x ∷ s))) rs refl refl order (sym (walk-some lastBus n (x ∷ s) (omega arith)) ∙ w)
     (λ m ts q o. stays-by n (At m) (drop 16 (x ∷ s)) ts (omega (arith, length-drop 16 (x ∷ s))) q o)
   where
-    by : (g : Read) (v : Walk) (rs : List WordRecord) → readOf (x ∷ s) ≡ g → walkFrom n (drop 16 (x ∷ s)) ≡ v → InOrder last rs → goOn g v ≡ whole rs
-        → ((m : Moment) (ts : List WordRecord) → walkFrom n (drop 16 (x ∷ s)) ≡ whole ts → InOrder (At m) ts → Stays (At m) (drop 16 (x ∷ s))) → Stays last (x ∷ s)
+    by : (g : Read) (v : Walk) (rs : List WordRecord) → readOf lastBus (x ∷ s) ≡ g → walkFrom lastBus n (drop 16 (x ∷ s)) ≡ v → InOrder last rs → goOn g v ≡ whole rs
+        → ((m : Moment) (ts : List WordRecord) → walkFrom lastBus n (drop 16 (x ∷ s)) ≡ whole ts → InOrder (At m) ts → Stays (At m) (drop 16 (x ∷ s))) → Stays last (x ∷ s)
     by (Refused k) v rs e f o q rest = absurd (not-whole k rs q)
     by (Record r) (stops k) rs e f o q rest = absurd (not-whole k rs q)
     by (Record r) (whole ts) rs e f o q rest =
@@ -120,7 +120,7 @@ stays-by (suc n) last (x ∷ s) rs l w order =
 
 -- by whether the first byte is the version
 unchanged-by : (x : ℕ) (s : List ℕ) (rs : List WordRecord) (b : Bool) → eqb x 1 ≡ b
-    → walkAt (cond b (opened.At (record { at = 1 })) (opened.Refused (record { 0 = 8 }))) (x ∷ s) ≡ whole rs → InOrder Nothing rs → Unchanged (x ∷ s)
+    → walkAt (cond b (opened.At (record { at = 1; «last_bus» = lastBusOf x })) (opened.Refused (record { 0 = 8 }))) (x ∷ s) ≡ whole rs → InOrder Nothing rs → Unchanged (x ∷ s)
 unfolding cleanOf runsOf piecesOf changedOf
 unchanged-by x s rs true e w order =
     let stays = stays-by (suc (length s)) Nothing s rs (omega arith) w order in

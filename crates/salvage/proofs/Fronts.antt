@@ -11,7 +11,7 @@ use lib.ListN.{length, take, drop, length-drop, take-append-drop}
 use lib.Seq.{length-take-le}
 use borrow.Author.Tests.{lt-ltb, le-ltb}
 use Rattle.words.specs.declared.times.Moment.{Moment}
-use Rattle.records.specs.Records.{recordAt, readOf}
+use Rattle.records.specs.Records.{lastBus, recordAt, readOf}
 use Rattle.records.specs.declared.forms.WordRecord.{WordRecord}
 use Rattle.records.specs.declared.forms.Read.{Read}
 use Rattle.records.specs.declared.forms.Read.the-variants.{Record, Refused}
@@ -34,7 +34,7 @@ never t h = let z : _≡_ {A = ℕ} 0 1 = cc in omega arith
 -- fewer than 16 bytes are skipped
 pub choice-short : (last : Last) (s : List ℕ) → length s < 16 → choiceOf last s ≡ Skips
 unfolding choiceOf
-choice-short last s l = ap (chosen last) (sym (short s l))
+choice-short last s l = ap (chosen last) (sym (short lastBus s l))
 
 pub choice-long : (last : Last) (s : List ℕ) (t : Moment) → choiceOf last s ≡ Keeps t → 16 ≤ length s
 choice-long last s t q = dite (decLe 16 (length s)) (λ l. l) (λ few. absurd (never t (sym (choice-short last s (lt-of-not-le few)) ∙ q)))
@@ -42,31 +42,31 @@ choice-long last s t q = dite (decLe 16 (length s)) (λ l. l) (λ few. absurd (n
 -- and no more than 16 are looked at
 pub choice-front : (last : Last) (s after : List ℕ) → 16 ≤ length s → choiceOf last (s ++ after) ≡ choiceOf last s
 unfolding choiceOf
-choice-front last s after l = ap (chosen last) (read-front s after l)
+choice-front last s after l = ap (chosen last) (read-front lastBus s after l)
 
 -- what a choice to keep shows
 pub found : (last : Last) (s : List ℕ) (t : Moment) → choiceOf last s ≡ Keeps t → InTime last s t
 unfolding choiceOf
-found last s t q = by (readOf s) refl q
+found last s t q = by (readOf lastBus s) refl q
   where
-    kept-by : (r : WordRecord) (b : Bool) → readOf s ≡ Record r → inTime last (r .time .0) ≡ b → cond b (Keeps (r .time)) Skips ≡ Keeps t → InTime last s t
+    kept-by : (r : WordRecord) (b : Bool) → readOf lastBus s ≡ Record r → inTime last (r .time .0) ≡ b → cond b (Keeps (r .time)) Skips ≡ Keeps t → InTime last s t
     kept-by r true e h k = record { r = r; reads = e; timed = cc; in-time = h }
     kept-by r false e h k = absurd (never t k)
 
-    by : (g : Read) → readOf s ≡ g → chosen last g ≡ Keeps t → InTime last s t
+    by : (g : Read) → readOf lastBus s ≡ g → chosen last g ≡ Keeps t → InTime last s t
     by (Record r) e k = kept-by r (inTime last (r .time .0)) e refl k
     by (Refused n) e k = absurd (never t k)
 
 -- 16 bytes are read as they stand, whatever comes behind them
-pub front-read : (s more : List ℕ) → 16 ≤ length s → readOf (take 16 s ++ more) ≡ readOf s
+pub front-read : (s more : List ℕ) → 16 ≤ length s → readOf lastBus (take 16 s ++ more) ≡ readOf lastBus s
 front-read s more l =
     let long : 16 ≤ length (take 16 s) = omega (arith, length-take-le 16 s l) in
-    read-front (take 16 s) more long ∙ sym (read-front (take 16 s) (drop 16 s) long) ∙ ap readOf (take-append-drop 16 s)
+    read-front lastBus (take 16 s) more long ∙ sym (read-front lastBus (take 16 s) (drop 16 s) long) ∙ ap (readOf lastBus) (take-append-drop 16 s)
 
 pub front-record : (last : Last) (s : List ℕ) (t : Moment) (f : InTime last s t) → 16 ≤ length s → recordAt (take 16 s) ≡ f .r
 front-record last s t f l =
     let front = take 16 s in
-    read-good front (f .r) (ap readOf (sym (append-nil front)) ∙ front-read s [] l ∙ f .reads) .same
+    read-good lastBus front (f .r) (ap (readOf lastBus) (sym (append-nil front)) ∙ front-read s [] l ∙ f .reads) .same
 
 -- ---- the pieces
 

@@ -5,7 +5,7 @@ use mathlib.Core.List.{List, [], _∷_, _++_}
 use lib.Dec.{leb, eqb}
 use lib.ListN.{take}
 use Rattle.words.specs.Words.{sinceOf}
-use Rattle.records.specs.Records.{recordBytes, readOf}
+use Rattle.records.specs.Records.{recordBytes, lastBus, readOf}
 use Rattle.records.specs.Files.{version}
 use Rattle.records.specs.declared.forms.Read.{Read}
 use Rattle.records.specs.declared.forms.Read.the-variants as read
@@ -34,7 +34,7 @@ chosen last (read.Record r) = cond (inTime last (r .time .0)) (Keeps (r .time)) 
 chosen last (read.Refused n) = Skips
 
 unfoldable pub choiceOf : Last → List ℕ → Choice
-choiceOf last bytes = chosen last (readOf bytes)
+choiceOf last bytes = chosen last (readOf lastBus bytes)
 
 -- A piece of the file: the 16 bytes of a record that is kept, or one byte that is skipped.
 pub data Piece : Type 0 where

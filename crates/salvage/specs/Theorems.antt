@@ -5,7 +5,7 @@ use mathlib.Core.Bool.{Bool, true, false}
 use mathlib.Core.List.{List, [], _∷_, _++_}
 use lib.ListN.{length, take, drop, replicate}
 use Rattle.words.specs.declared.times.Moment.{Moment}
-use Rattle.records.specs.Records.{recordBytes, recordAt, readOf}
+use Rattle.records.specs.Records.{recordBytes, lastBus, recordAt, readOf}
 use Rattle.records.specs.Files.{version, whole, walkOf}
 use Rattle.records.specs.declared.forms.WordRecord.{WordRecord}
 use Rattle.records.specs.declared.forms.Read.the-variants.{Record}
@@ -24,14 +24,14 @@ use Rattle.salvage.specs.declared.salvages.Ended.the-variants.{Whole}
 -- The bytes read as a record of that time, and it is in time.
 pub record InTime (last : Last) (bytes : List ℕ) (time : Moment) : Type 0 where
   pub r : WordRecord
-  pub reads : readOf bytes ≡ Record r
+  pub reads : readOf lastBus bytes ≡ Record r
   pub timed : r .time ≡ time
   pub in-time : inTime last (r .time .0) ≡ true
 
 -- At each place the bytes from there on decide. Where 16 read as a record in time, and only there, they are kept, and the walk goes on behind them;
 -- else one is skipped: each-place
 pub record EachPlace : Type 0 where
-  pub every : (last : Last) (bytes : List ℕ) (r : WordRecord) → readOf bytes ≡ Record r → inTime last (r .time .0) ≡ true → choiceOf last bytes ≡ Keeps (r .time)
+  pub every : (last : Last) (bytes : List ℕ) (r : WordRecord) → readOf lastBus bytes ≡ Record r → inTime last (r .time .0) ≡ true → choiceOf last bytes ≡ Keeps (r .time)
   pub only : (last : Last) (bytes : List ℕ) (time : Moment) → choiceOf last bytes ≡ Keeps time → InTime last bytes time
   pub keeps : (last : Last) (bytes : List ℕ) (time : Moment) → choiceOf last bytes ≡ Keeps time
       → piecesFrom 0 last bytes ≡ kept (take recordBytes bytes) ∷ piecesFrom 0 (At time) (drop recordBytes bytes)

@@ -1,6 +1,7 @@
 // Whether the bytes at a place are kept (02 c). Meaning: specs/Pieces.antt. Refusals: none.
 ghost use mathlib.Core.Path.{_≡_};
 ghost use Rattle.salvage.specs.Pieces.{inTime, choiceOf};
+use records::LAST_BUS;
 use records::Read;
 use records::read_record;
 use words::Moment;
@@ -36,7 +37,7 @@ impl Last {
     pub(crate) fn choose(self, bytes: &[u8]) -> Choice
         ensures choice { λ r. ⌜ r ≡ choiceOf self (now (bytes .entry)) ⌝ }
     {
-        let Read::Record(record) = read_record(bytes) else {
+        let Read::Record(record) = read_record(bytes, LAST_BUS) else {
             return Choice::Skips;
         };
         let time = record.time;

@@ -6,7 +6,7 @@ use lib.Dec.{eqb, leb}
 use lib.ListN.{length, replicate}
 use Rattle.words.specs.Words.{onClock}
 use Rattle.words.specs.Refusals.{notRefused, refusedTableSize, refusedOwnAddress, refusedOutOfRange, refusedOutOfOrder}
-use Rattle.records.specs.Records.{inRange}
+use Rattle.records.specs.Records.{lastBus, inRange}
 use Rattle.terminal.specs.States.{ownOf, setupOf, freshHeld, withSelftest, noMessage, noSending, freshOf, withHeld, withMessage, withSending, atTime}
 use Rattle.terminal.specs.Settling.{noAnswer}
 use Rattle.terminal.specs.Rules.{rule1, rule1Answer, rule1Receive, rule2, rules3to6, cutsSending}
@@ -44,7 +44,7 @@ timeOf (Word r) = r .time .0
 
 abbrev pub isInRange : Event → Bool
 isInRange (Mark t) = onClock (t .0)
-isInRange (Word r) = inRange r
+isInRange (Word r) = inRange lastBus r
 
 -- "Every event lends a receive and a transmit table of exactly 1,024 words". "Event: 1, 5, 6.": "a lent word table is not 1,024 words"; "a field
 -- or a time out of range"; "event earlier than the last". Of the tables only their lengths matter.

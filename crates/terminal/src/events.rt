@@ -10,6 +10,7 @@ use crate::states::Own;
 use crate::states::Terminal;
 use crate::states::Work;
 use crate::tables::TABLE_WORDS;
+use records::LAST_BUS;
 use records::WordRecord;
 use words::Moment;
 use words::Refusal;
@@ -75,7 +76,7 @@ impl Terminal {
         ensures refusal { λ r. ⌜ r .0 ≡ eventRefusal self (Word heard) receive transmit ⌝ }
     {
         if (receive == TABLE_WORDS) & (transmit == TABLE_WORDS) {
-            if heard.in_range() {
+            if heard.in_range(LAST_BUS) {
                 if self.time.0 <= heard.time.0 {
                     return Refusal::NONE;
                 }

@@ -3,6 +3,7 @@ pub mod Places
 pub mod Findings
 pub mod Orders
 pub mod Walks
+pub mod Refusals
 pub mod Ranges
 pub mod Spacings
 pub mod Longer

@@ -13,7 +13,7 @@ use Rattle.words.specs.Refusals.{notRefused, refusedOutOfOrder, refusedOutOfRan
 use Rattle.words.proofs.Truth.{and-both}
 use Rattle.words.specs.declared.refusals.Refusal.{Refusal}
 use Rattle.words.specs.declared.times.Moment.{Moment}
-use Rattle.records.specs.Records.{recordBytes, readOf}
+use Rattle.records.specs.Records.{recordBytes, lastBus, readOf}
 use Rattle.records.specs.Files.{Walk, whole, stops, with}
 use Rattle.records.specs.declared.forms.WordRecord.{WordRecord}
 use Rattle.records.specs.declared.forms.Read.{Read}
@@ -118,7 +118,7 @@ module _ (plan : Plan) (moment : Moment) (later : plan .until .0 ≤ moment .0) 
   unfolding returnedFrom
   returned-longer zero before bytes rs h = h
   returned-longer (suc n) before bytes rs h =
-      go (eqb (length bytes) 0) (readOf bytes) (λ time. returnedFrom n plan time (drop recordBytes bytes))
+      go (eqb (length bytes) 0) (readOf lastBus bytes) (λ time. returnedFrom n plan time (drop recordBytes bytes))
       (λ time. returnedFrom n (withUntil plan moment) time (drop recordBytes bytes))
       (λ time. returned-longer n time (drop recordBytes bytes))
       h
@@ -149,12 +149,12 @@ module _ (plan : Plan) (moment : Moment) (later : plan .until .0 ≤ moment .0) 
     where
       -- the test of the plan's numbers with that Q
       fits : ℕ → Bool
-      fits q = leb (plan .bus) 1 && onClock (plan .last .0) && onClock q && leb (plan .last .0) q
+      fits q = leb (plan .bus) lastBus && onClock (plan .last .0) && onClock q && leb (plan .last .0) q
 
       again : fits (plan .until .0) ≡ true → fits (moment .0) ≡ true
       again h =
-          let all = and-both (leb (plan .bus) 1 && onClock (plan .last .0) && onClock (plan .until .0)) (leb (plan .last .0) (plan .until .0)) h in
-          let front = and-both (leb (plan .bus) 1 && onClock (plan .last .0)) (onClock (plan .until .0)) (all .0) in
+          let all = and-both (leb (plan .bus) lastBus && onClock (plan .last .0) && onClock (plan .until .0)) (leb (plan .last .0) (plan .until .0)) h in
+          let front = and-both (leb (plan .bus) lastBus && onClock (plan .last .0)) (onClock (plan .until .0)) (all .0) in
           rw (front .0, on-clock) (le-leb (plan .last .0) (moment .0) (omega (arith, leb-true (plan .last .0) (plan .until .0) (all .1))))
 
       go : (possible fit : Bool) → fits (plan .until .0) ≡ fit

@@ -10,7 +10,7 @@ use lib.Seq.{drop-drop}
 use borrow.Author.Tests.{eq-eqb, ne-eqb}
 use Rattle.words.specs.Refusals.{notRefused}
 use Rattle.words.specs.declared.refusals.Refusal.{Refusal}
-use Rattle.records.specs.Records.{recordBytes, readOf}
+use Rattle.records.specs.Records.{recordBytes, lastBus, readOf}
 use Rattle.records.specs.Files.{Walk, whole, stops, with}
 use Rattle.records.specs.declared.forms.WordRecord.{WordRecord}
 use Rattle.records.specs.declared.forms.Read.{Read}
@@ -71,14 +71,14 @@ record Turn (plan : Plan) (bytes : List ℕ) (total : Judged) (at looked last fo
   same : resume plan found looked last (goOn plan last g (λ (time : ℕ). returnedFrom fuel plan time (drop (at + recordBytes) bytes))) ≡ total
 
 returned-some : (n : ℕ) (plan : Plan) (last : ℕ) (bytes : List ℕ) → 0 < length bytes
-    → returnedFrom (suc n) plan last bytes ≡ goOn plan last (readOf bytes) (λ (time : ℕ). returnedFrom n plan time (drop recordBytes bytes))
+    → returnedFrom (suc n) plan last bytes ≡ goOn plan last (readOf lastBus bytes) (λ (time : ℕ). returnedFrom n plan time (drop recordBytes bytes))
 unfolding returnedFrom
 returned-some n plan last bytes some = rw (ne-eqb (length bytes) 0 (λ e. omega arith))
 
 turn-by : (plan : Plan) (bytes : List ℕ) (total : Judged) (at looked last found n : ℕ) → length bytes ≤ at + n
     → resume plan found looked last (returnedFrom n plan last (drop at bytes)) ≡ total
     → at < length bytes
-    → Turn plan bytes total at looked last found (readOf (drop at bytes))
+    → Turn plan bytes total at looked last found (readOf lastBus (drop at bytes))
 turn-by plan bytes total at looked last found zero enough same l = absurd (omega arith)
 turn-by plan bytes total at looked last found (suc n) enough same l = record {
   fuel = n;
@@ -86,7 +86,7 @@ turn-by plan bytes total at looked last found (suc n) enough same l = record {
   same =
       sym
       (ap (resume plan found looked last) (returned-some n plan last (drop at bytes) (omega (arith, length-drop at bytes)))
-      ∙ ap (λ (l : List ℕ). resume plan found looked last (goOn plan last (readOf (drop at bytes)) (λ (time : ℕ). returnedFrom n plan time l)))
+      ∙ ap (λ (l : List ℕ). resume plan found looked last (goOn plan last (readOf lastBus (drop at bytes)) (λ (time : ℕ). returnedFrom n plan time l)))
       (drop-drop recordBytes at bytes))
       ∙ same;
 }
@@ -105,10 +105,10 @@ module _ (plan : Plan) (found looked last : ℕ) (r : WordRecord) where
   resume-pass some (whole rs) = rw (ne-eqb found good some)
 
 module _ (plan : Plan) (bytes : List ℕ) (total : Judged) (at looked last found : ℕ) (g : Read) (left : Left plan bytes total at looked last found)
-    (l : at < length bytes) (e : g ≡ readOf (take (length bytes - at) (drop at bytes))) where
+    (l : at < length bytes) (e : g ≡ readOf lastBus (take (length bytes - at) (drop at bytes))) where
   turn : (x : Read) → g ≡ x → Turn plan bytes total at looked last found x
   turn x q =
-      subst (λ (y : Read). Turn plan bytes total at looked last found y) (sym (e ∙ rest-read bytes at (omega arith)) ∙ q)
+      subst (λ (y : Read). Turn plan bytes total at looked last found y) (sym (e ∙ rest-read lastBus bytes at (omega arith)) ∙ q)
       (turn-by plan bytes total at looked last found (left .fuel) (left .enough) (left .same) l)
 
   -- the reader refuses

@@ -10,6 +10,7 @@ use Rattle.words.specs.Refusals.{notRefused, refusedOutOfRange, refusedImpossib
 use Rattle.words.specs.declared.modes.Listing.{Listing}
 use Rattle.words.specs.declared.modes.Listing.the-variants.{Reserved, Listed}
 use Rattle.words.specs.declared.modes.ModeWord.the-variants.{None, Sent, Received}
+use Rattle.records.specs.Records.{lastBus}
 use Rattle.verdict.specs.declared.plans.Plan.{Plan}
 use Rattle.verdict.specs.declared.plans.Expected.{Expected}
 use Rattle.verdict.specs.declared.plans.Expected.the-variants.{Status, Data}
@@ -40,7 +41,7 @@ isPossible plan =
 unfoldable pub planRefusal : Plan → ℕ
 planRefusal plan =
     cond (isPossible plan)
-    (cond (leb (plan .bus) 1 && onClock (plan .last .0) && onClock (plan .until .0) && leb (plan .last .0) (plan .until .0)) notRefused refusedOutOfRange)
+    (cond (leb (plan .bus) lastBus && onClock (plan .last .0) && onClock (plan .until .0) && leb (plan .last .0) (plan .until .0)) notRefused refusedOutOfRange)
     refusedImpossiblePlan
 
 -- ---- "Expected back"

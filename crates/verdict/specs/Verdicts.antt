@@ -6,7 +6,7 @@ use mathlib.Core.List.{List, [], _∷_}
 use lib.Dec.{eqb, ltb, leb}
 use lib.ListN.{length, getD, drop}
 use Rattle.words.specs.Refusals.{notRefused, refusedOutOfRange, refusedOutOfOrder}
-use Rattle.records.specs.Records.{recordBytes, readOf, refusalOf}
+use Rattle.records.specs.Records.{recordBytes, lastBus, readOf, refusalOf}
 use Rattle.records.specs.Files.{Walk, whole, stops, with}
 use Rattle.records.specs.declared.forms.WordRecord.{WordRecord}
 use Rattle.records.specs.declared.forms.Read.{Read}
@@ -42,7 +42,7 @@ goOn plan before (read.Refused n) rest = stops n
 unfoldable pub returnedFrom : ℕ → Plan → ℕ → List ℕ → Walk
 returnedFrom zero plan before bytes = whole []
 returnedFrom (suc n) plan before bytes =
-    cond (eqb (length bytes) 0) (whole []) (goOn plan before (readOf bytes) (λ (time : ℕ). returnedFrom n plan time (drop recordBytes bytes)))
+    cond (eqb (length bytes) 0) (whole []) (goOn plan before (readOf lastBus bytes) (λ (time : ℕ). returnedFrom n plan time (drop recordBytes bytes)))
 
 -- the first comes after "the time E of the controller's last word"
 unfoldable pub returnedOf : Plan → List ℕ → Walk

@@ -6,6 +6,7 @@ ghost use Rattle.verdict.specs.Verdicts.{expectedAt, sentFirst, recordRe
 use crate::facts::data_fact;
 use crate::plans::Plan;
 use crate::verdicts::Verdict;
+use records::LAST_BUS;
 use records::RECORD_BYTES;
 use records::Read;
 use records::WordRecord;
@@ -96,7 +97,7 @@ impl Plan {
         let mut last = self.last.0;
         let mut found: u8 = Verdict::GOOD.0;
         while at < records.len() {
-            let read = read_record(&records[at..]);
+            let read = read_record(&records[at..], LAST_BUS);
             let Read::Record(heard) = read else {
                 return refused(read);
             };

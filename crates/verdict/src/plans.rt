@@ -5,6 +5,7 @@ ghost use lib.ListN.{getD};
 ghost use Rattle.verdict.specs.Plans.{isSingle, isPair, isPossible, planRefusal, isUnjudged, sentBy, sentOf, partOf, backOf};
 ghost use Rattle.verdict.specs.Verdicts.{expectedAt, sentFirst};
 ghost use Rattle.verdict.specs.declared.plans.Expected.the-variants.{Nothing};
+use records::LAST_BUS;
 use words::CommandWord;
 use words::Listing;
 use words::ModeWord;
@@ -134,7 +135,7 @@ impl Plan {
         }
         let last = self.last;
         let until = self.until;
-        if (self.bus <= 1) & last.on_clock() & until.on_clock() & (last.0 <= until.0) {
+        if (self.bus <= LAST_BUS) & last.on_clock() & until.on_clock() & (last.0 <= until.0) {
             return Refusal::NONE;
         }
         Refusal::OUT_OF_RANGE

@@ -1,6 +1,5 @@
 -- The loop's invariant: what is left at the place, with the records so far, is what the whole gives. Assumes nothing.
 use Prim.Native.Nat.{_-_}
-use native.Mathlib.Omega.{arith}
 use lib.ListN.{length, drop}
 use Rattle.records.specs.Files.{walkFrom, counts}
 use Rattle.records.proofs.Walks.{Left, start, stop, refused, next}
@@ -9,10 +8,10 @@ use Rattle.records.proofs.files.count_from.Statement.{statement}
 use Rattle.records.proofs.files.count_from.Tie as tie
 
 abbrev Inv-loop : tie.InvT-loop
-Inv-loop file at₀ records₀ at records = Left file (counts (walkFrom (length file) (drop at₀ file))) at records
+Inv-loop file last at₀ records₀ at records = Left last file (counts (walkFrom last (length file) (drop at₀ file))) at records
 
 abbrev μ-loop : tie.MeasureT-loop
-μ-loop file at₀ records₀ at records = length file - at
+μ-loop file last at₀ records₀ at records = length file - at
 
 loop-holds : tie.Need-loop-holds Inv-loop μ-loop
 loop-holds c = start _ _
@@ -45,7 +44,7 @@ loop-again : tie.Need-loop-again Inv-loop μ-loop
 loop-again c =
     let g = c .before .before in
     let l = g .before .before in
-    next _ _ _ _ _ (l .before .loop .inv) (l .loop-test .taken) (g .read-record .ensures) _ (c .enum-told .given .1)
+    next _ _ _ _ _ _ (l .before .loop .inv) (l .loop-test .taken) (g .read-record .ensures) _ (c .enum-told .given .1)
 
 enum-known-refusal : tie.Need-enum-known-refusal Inv-loop μ-loop
 enum-known-refusal c = search needs

@@ -7,17 +7,8 @@ use Rattle.records.proofs.forms.read_record.Tie as tie
 returns : tie.Need-returns
 returns c = search (short, needs)
 
-sub-number : tie.Need-sub-number
-sub-number c = search needs
-
-part-number-start : tie.Need-part-number-start
-part-number-start c = search needs
-
-part-number-end : tie.Need-part-number-end
-part-number-end c = search needs
-
-number-requires : tie.Need-number-requires
-number-requires c κs = search needs
+number-two-requires : tie.Need-number-two-requires
+number-two-requires c κs = search needs
 
 returns-2 : tie.Need-returns-2
 returns-2 c = search (bad-length, needs)
@@ -39,10 +30,7 @@ read-record-spec =
     tie.close
     (tie.spec
     returns
-    sub-number
-    part-number-start
-    part-number-end
-    number-requires
+    number-two-requires
     returns-2
     spelled-requires
     in-range-requires

@@ -1,32 +1,34 @@
 -- Each field is the number that its bytes spell. Assumes nothing.
-use Rattle.records.proofs.Cases.{two-bytes}
+use native.Mathlib.Omega.{arith}
+use denote.Ref.{now}
+use Rattle.records.proofs.Digits.{rest-all}
 use borrow.Author.Needs.{needs}
 use Rattle.records.proofs.forms.spelled.Statement.{statement}
 use Rattle.records.proofs.forms.spelled.Tie as tie
 
-sub-number : tie.Need-sub-number
-sub-number c = search needs
+sub-number-eight : tie.Need-sub-number-eight
+sub-number-eight c = search needs
 
-part-number-start : tie.Need-part-number-start
-part-number-start c = search needs
+part-number-eight-start : tie.Need-part-number-eight-start
+part-number-eight-start c = search needs
 
-part-number-end : tie.Need-part-number-end
-part-number-end c = search needs
+part-number-eight-end : tie.Need-part-number-eight-end
+part-number-eight-end c = search needs
 
-number-requires : tie.Need-number-requires
-number-requires c κs = search needs
+number-eight-requires : tie.Need-number-eight-requires
+number-eight-requires c κs = search needs
 
-sub-number-2 : tie.Need-sub-number-2
-sub-number-2 c = search needs
+sub-number-two : tie.Need-sub-number-two
+sub-number-two c = search needs
 
-part-number-start-2 : tie.Need-part-number-start-2
-part-number-start-2 c = search needs
+part-number-two-start : tie.Need-part-number-two-start
+part-number-two-start c = search needs
 
-part-number-end-2 : tie.Need-part-number-end-2
-part-number-end-2 c = search needs
+part-number-two-end : tie.Need-part-number-two-end
+part-number-two-end c = search needs
 
-number-requires-2 : tie.Need-number-requires-2
-number-requires-2 c κs = search needs
+number-two-requires : tie.Need-number-two-requires
+number-two-requires c κs = search needs
 
 shared-slice-read-t13 : tie.Need-shared-slice-read-t13
 shared-slice-read-t13 c = search needs
@@ -38,26 +40,28 @@ shared-slice-read-t17 : tie.Need-shared-slice-read-t17
 shared-slice-read-t17 c = search needs
 
 cast-t18 : tie.Need-cast-t18
-cast-t18 c = search (two-bytes, needs)
+cast-t18 c = search needs
 
 shared-slice-read-t20 : tie.Need-shared-slice-read-t20
 shared-slice-read-t20 c = search needs
 
 returns : tie.Need-returns
-returns c = cc
+returns c =
+    let bytes = now (c .before .before .before .before .before .before .before .before .before .args .bytes) in
+    cc (rest-all 2 bytes (omega arith), rest-all 13 bytes (omega arith))
 
 pub spelled-spec : {M : Type 1} → statement M
 spelled-spec =
     tie.close
     (tie.spec
-    sub-number
-    part-number-start
-    part-number-end
-    number-requires
-    sub-number-2
-    part-number-start-2
-    part-number-end-2
-    number-requires-2
+    sub-number-eight
+    part-number-eight-start
+    part-number-eight-end
+    number-eight-requires
+    sub-number-two
+    part-number-two-start
+    part-number-two-end
+    number-two-requires
     shared-slice-read-t13
     shared-slice-read-t15
     shared-slice-read-t17

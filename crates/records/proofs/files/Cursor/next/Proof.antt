@@ -22,8 +22,8 @@ read-record-requires c κs = search needs
 enum-known-record : tie.Need-enum-known-record
 enum-known-record c = search needs
 
-add-t13 : tie.Need-add-t13
-add-t13 c = search needs
+add-t14 : tie.Need-add-t14
+add-t14 c = search needs
 
 enum-known-refusal : tie.Need-enum-known-refusal
 enum-known-refusal c = search needs
@@ -44,7 +44,7 @@ next-spec =
     part-read-record-end
     read-record-requires
     enum-known-record
-    add-t13
+    add-t14
     enum-known-refusal
     returns-2
     returns-3)
