@@ -9,13 +9,14 @@ use libc::STDIN_FILENO;
 use libc::STDOUT_FILENO;
 use lines::Block;
 use lines::Sink;
+use lines::between;
 use lines::complain;
 use lines::hold_errors;
 use lines::is_dash;
 use lines::remark;
 use records::RECORD_BYTES;
-use records::VERSION;
 use salvage::Ended;
+use salvage::First;
 use salvage::Salvage;
 use salvage::Totals;
 use status::Status;
@@ -187,7 +188,9 @@ fn save_chunks(
     let mut saved = io::large_buffer();
     let mut begun = first;
     let sink = begun.clean;
-    let versioned = sink.put(&mut saved, VERSION);
+    let count = io::count(begun.got, chunk);
+    let version = First::of(between(chunk, 0, count)).version();
+    let versioned = sink.put(&mut saved, version);
     begun.clean = versioned;
     let last = begun.take_all(input, chunk, &mut room, listing, &mut saved);
     last.finish(listing, &saved, damaged, clean)

@@ -8,8 +8,10 @@ ghost use Rattle.salvage.specs.Machine.{askedOf, isSettledOf};
 use crate::strays::Strays;
 use lines::Block;
 use lines::Sink;
+use lines::between;
 use salvage::Salvage;
 use std::num::wrapping_add_u64;
+use std::num::wrapping_add_usize;
 use texts::put_run;
 
 // A chunk, and before it the bytes of a record that wait.
@@ -26,21 +28,6 @@ pub(crate) struct Saving {
     pub(crate) clean: Sink,
     pub(crate) read: u64,
     pub(crate) strays: Strays,
-}
-
-// Gives so many bytes of the room from a place on, none where it has not so many: then the clean file has not its size at the end.
-fn part(room: &[u8], from: usize, count: usize) -> &[u8] {
-    if from <= room.len() {
-        if count <= room.len() - from {
-            return &room[from..from + count];
-        }
-    }
-    &room[0..0]
-}
-
-// Gives the first so many bytes of a chunk. Taking a slice lets a part of it be lent on.
-fn front(chunk: &[u8], count: usize) -> &[u8] {
-    part(chunk, 0, count)
 }
 
 // Puts bytes, unless something has failed before.
@@ -87,7 +74,11 @@ impl Saving {
         let progress = salvage.ask(room);
         let after = progress.salvage;
         let run = progress.run;
-        let bytes = part(room, progress.from, progress.kept);
+        let bytes = between(
+            room,
+            progress.from,
+            wrapping_add_usize(progress.from, progress.kept),
+        );
         let listed = self.listed;
         let clean = self.clean;
         let after_run = put_run(listed, listing, run);
@@ -104,7 +95,7 @@ impl Saving {
 
     // Asks until all is settled. It ends since each question settles a byte or more (`goes-on`).
     fn settle(self, room: &[u8], listing: &mut Block, saved: &mut Block) -> Saving
-        requires { ⌜ self .salvage .to ≤ length (now room) ⌝ }
+        requires { ⌜ self .salvage .window .to ≤ length (now room) ⌝ }
     {
         let mut next = self;
         while next.is_unsettled() {
@@ -141,7 +132,7 @@ impl Saving {
         saved: &mut Block,
     ) -> Saving {
         let count = io::count(self.got, chunk);
-        let mut next = self.take(front(chunk, count), room, listing, saved);
+        let mut next = self.take(between(chunk, 0, count), room, listing, saved);
         next.read = wrapping_add_u64(self.read, count as u64);
         if next.has_failed() {
             return next;

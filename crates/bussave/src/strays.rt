@@ -181,7 +181,7 @@ impl Strays {
         let Last::At(time) = last else {
             return self;
         };
-        let to = salvage.from;
+        let to = salvage.window.from;
         let from = wrapping_add_usize(progress.from, progress.kept);
         let end = wrapping_add_u64(settled.run.place, settled.run.length);
         self.with_all(room, from, to, wrapping_sub_u64(end, to as u64), time)

@@ -12,8 +12,11 @@ use Rattle.records.specs.Records.{lastBus, readOf}
 use Rattle.records.specs.declared.forms.WordRecord.{WordRecord}
 use Rattle.records.specs.declared.forms.Read.{Read}
 use Rattle.records.specs.declared.forms.Read.the-variants.{Record, Refused}
-use Rattle.salvage.specs.Pieces.{inTime, chosen, choiceOf, afterFirst}
-use Rattle.salvage.specs.Machine.{sum64, settledKept, settledSkipped, runEnded, gatheredOf, gatheredIn, firstOf, oneMore, begunOf, fedBy, fedOf, behindFirst, roomOf, isSettledOf, sizeOf, totalsOf, endedOf}
+use Rattle.windows.specs.Windows.{countOf, filledOf, filledRoom}
+use Rattle.windows.specs.declared.windows.Filled.{Filled}
+use Rattle.windows.proofs.Waiting.{filled-few}
+use Rattle.salvage.specs.Pieces.{inTime, chosen, choiceOf, afterFirst, firstOf, firstIn}
+use Rattle.salvage.specs.Machine.{sum64, settledKept, settledSkipped, runEnded, gatheredOf, oneMore, begunOf, fedBy, fedOf, behindFirst, roomOf, isSettledOf, sizeOf, totalsOf, endedOf}
 use Rattle.salvage.specs.declared.choices.Last.{Last}
 use Rattle.salvage.specs.declared.choices.Choice.the-variants.{Keeps, Skips}
 use Rattle.salvage.specs.declared.stretches.Stretch.{Stretch}
@@ -64,13 +67,24 @@ module _ (s : Settled) (stretch : Stretch) where
 
 -- ---- the first byte
 
-pub first-kept : (byte : ℕ) → byte ≡ 1 → Kept ≡ firstOf byte
-unfolding firstOf
-first-kept byte h = rw (eq-eqb _ _ h)
+pub first-missing : (bytes : List ℕ) → length bytes ≡ 0 → Missing ≡ firstIn bytes
+unfolding firstIn
+first-missing [] l = refl
+first-missing (byte ∷ rest) l = absurd (omega arith)
 
-pub first-changed : (byte : ℕ) → (byte ≡ 1 → ⊥) → Changed ≡ firstOf byte
-unfolding firstOf
-first-changed byte h = rw (ne-eqb _ _ h)
+first-some : (bytes : List ℕ) → (length bytes ≡ 0 → ⊥) → firstOf (getD bytes 0 0) ≡ firstIn bytes
+unfolding firstIn
+first-some [] h = absurd (h refl)
+first-some (byte ∷ rest) h = refl
+
+module _ (bytes : List ℕ) (some : length bytes ≡ 0 → ⊥) where
+  pub first-kept : getD bytes 0 0 ≡ 1 → Kept ≡ firstIn bytes
+  unfolding firstOf
+  first-kept h = rw (eq-eqb _ _ h) at (first-some bytes some)
+
+  pub first-changed : (getD bytes 0 0 ≡ 1 → ⊥) → Changed ≡ firstIn bytes
+  unfolding firstOf
+  first-changed h = rw (ne-eqb _ _ h) at (first-some bytes some)
 
 -- ---- the file's first byte, and none of it
 
@@ -84,8 +98,8 @@ after-empty [] l = refl
 after-empty (x ∷ more) l = absurd (omega arith)
 
 begun-more : (s : Salvage) (room chunk : List ℕ) → (length chunk ≡ 0 → ⊥)
-    → oneMore (gatheredOf s (firstOf (getD chunk 0 0)) room (take (length chunk - 1) (drop 1 chunk))) ≡ begunOf s room chunk
-unfolding begunOf
+    → oneMore (gatheredOf s (firstIn chunk) room (take (length chunk - 1) (drop 1 chunk))) ≡ begunOf s room chunk
+unfolding begunOf firstIn
 begun-more s room [] h = absurd (h refl)
 begun-more s room (x ∷ more) h =
     ap (λ (k : List ℕ). oneMore (gatheredOf s (firstOf x) room k)) (take-all (suc (length more) - 1) more (omega arith))
@@ -98,21 +112,30 @@ module _ (s : Salvage) (room room′ chunk : List ℕ) (fed : Fed) where
   pub begun-none : length chunk ≡ 0 → fed ≡ gatheredOf s Missing room chunk → fed ≡ begunOf s room chunk
   begun-none l e = e ∙ begun-empty s room chunk l
 
-  pub begun-none-room : length chunk ≡ 0 → room′ ≡ gatheredIn s room chunk → room′ ≡ gatheredIn s room (afterFirst chunk)
-  begun-none-room l e = e ∙ ap (gatheredIn s room) (after-empty chunk l)
+  pub begun-none-room : length chunk ≡ 0 → room′ ≡ filledRoom (s .window) room chunk → room′ ≡ filledRoom (s .window) room (afterFirst chunk)
+  begun-none-room l e = e ∙ ap (filledRoom (s .window) room) (after-empty chunk l)
 
   module _ (h : length chunk ≡ 0 → ⊥) where
-    pub begun-some : {first : First} → first ≡ firstOf (getD chunk 0 0) → fed ≡ gatheredOf s first room (take (length chunk - 1) (drop 1 chunk))
+    pub begun-some : {first : First} → first ≡ firstIn chunk → fed ≡ gatheredOf s first room (take (length chunk - 1) (drop 1 chunk))
         → record { salvage = fed .salvage; taken = fed .taken + 1 } ≡ begunOf s room chunk
     begun-some f e = ap oneMore (e ∙ ap (λ (first : First). gatheredOf s first room (take (length chunk - 1) (drop 1 chunk))) f) ∙ begun-more s room chunk h
 
-    pub begun-some-room : room′ ≡ gatheredIn s room (take (length chunk - 1) (drop 1 chunk)) → room′ ≡ gatheredIn s room (afterFirst chunk)
-    begun-some-room e = e ∙ ap (gatheredIn s room) (after-more chunk h)
+    pub begun-some-room : room′ ≡ filledRoom (s .window) room (take (length chunk - 1) (drop 1 chunk)) → room′ ≡ filledRoom (s .window) room (afterFirst chunk)
+    begun-some-room e = e ∙ ap (filledRoom (s .window) room) (after-more chunk h)
 
     -- what was taken, with the first byte, is no more than the chunk
     pub begun-fits : (first : First) → fed ≡ gatheredOf s first room (take (length chunk - 1) (drop 1 chunk)) → fed .taken + 1 ≤ length chunk
     unfolding gatheredOf
-    begun-fits first e = omega (arith, ap (λ (k : Fed). k .taken) e, length-take (length chunk - 1) (drop 1 chunk))
+    begun-fits first e =
+        let rest = take (length chunk - 1) (drop 1 chunk) in
+        omega (arith, ap (λ (k : Fed). k .taken) e, filled-few (s .window) room rest, length-take (length chunk - 1) (drop 1 chunk))
+
+-- ---- the window after a chunk
+
+pub gathered : (s : Salvage) (first : First) (room more : List ℕ) (filled : Filled) → filled ≡ filledOf (s .window) room more
+    → record { salvage = record { first = first; settled = s .settled; window = filled .window }; taken = filled .taken } ≡ gatheredOf s first room more
+unfolding gatheredOf
+gathered s first room more filled e = rw e
 
 -- ---- by what the first byte is
 
@@ -121,16 +144,16 @@ module _ (s : Salvage) (room chunk : List ℕ) (f : First) (h : s .first ≡ f) 
   unfolding fedOf
   fed-by e = e ∙ sym (ap (λ (x : First). fedBy x s room chunk) h)
 
-  pub room-by : {room′ : List ℕ} → room′ ≡ gatheredIn s room (behindFirst f chunk) → room′ ≡ roomOf s room chunk
+  pub room-by : {room′ : List ℕ} → room′ ≡ filledRoom (s .window) room (behindFirst f chunk) → room′ ≡ roomOf s room chunk
   unfolding roomOf
-  room-by e = e ∙ sym (ap (λ (x : First). gatheredIn s room (behindFirst x chunk)) h)
+  room-by e = e ∙ sym (ap (λ (x : First). filledRoom (s .window) room (behindFirst x chunk)) h)
 
 pub size-by : (first : First) (run : Run) (n : ℕ) (f : First) → first ≡ f → n ≡ sizeOf f run → n ≡ sizeOf first run
 size-by first run n f h e = e ∙ sym (ap (λ (x : First). sizeOf x run) h)
 
 -- ---- the end
 
-pub totals : (s : Salvage) (after : Settled) (n bytes : ℕ) → n ≡ s .to - s .from → after ≡ settledSkipped (s .settled) n → bytes ≡ sizeOf (s .first) (after .run)
+pub totals : (s : Salvage) (after : Settled) (n bytes : ℕ) → n ≡ countOf (s .window) → after ≡ settledSkipped (s .settled) n → bytes ≡ sizeOf (s .first) (after .run)
     → record { first = s .first; run = after .run; records = after .records; skipped = after .skipped; bytes = bytes } ≡ totalsOf s
 unfolding totalsOf
 totals s after n bytes w a b = rw (b, a, w)

@@ -17,7 +17,7 @@ use Rattle.records.specs.declared.forms.Read.{Read}
 use Rattle.records.specs.declared.forms.Read.the-variants.{Record, Refused}
 use Rattle.records.specs.declared.files.Opened.the-variants as opened
 use Rattle.records.proofs.Walks.{walk-none, walk-some}
-use Rattle.salvage.specs.Pieces.{inTime, choiceOf, Piece, kept, piecesFrom, afterFirst, piecesOf, keptBytes, cleanOf, runsFrom, runsOf, changedOf}
+use Rattle.salvage.specs.Pieces.{inTime, choiceOf, Piece, kept, piecesFrom, afterFirst, piecesOf, keptBytes, versionOf, cleanOf, runsFrom, runsOf, changedOf}
 use Rattle.salvage.specs.Theorems.{InTime, InOrder, keptRecords, SavedReads, Unchanged, WholeFileKept, SavedAgain, EmptyFile}
 use Rattle.salvage.specs.declared.choices.Last.{Last}
 use Rattle.salvage.specs.declared.choices.Last.the-variants.{Nothing, At}
@@ -73,7 +73,7 @@ reads-by (suc fuel) last (x ∷ s) l =
     subst (Reads last) (sym (pieces-skip last x s q)) (record { walk = rest .walk; order = rest .order }))
 
 pub saved-reads : SavedReads
-unfolding cleanOf piecesOf walkOf openOf
+unfolding versionOf cleanOf piecesOf walkOf openOf
 saved-reads file =
     let reads = reads-by (length (afterFirst file)) Nothing (afterFirst file) (omega arith) in
     (reads .walk (suc (length (keptBytes (piecesFrom 0 Nothing (afterFirst file))))) (omega arith), reads .order)
@@ -121,7 +121,7 @@ stays-by (suc n) last (x ∷ s) rs l w order =
 -- by whether the first byte is the version
 unchanged-by : (x : ℕ) (s : List ℕ) (rs : List WordRecord) (b : Bool) → eqb x 1 ≡ b
     → walkAt (cond b (opened.At (record { at = 1; «last_bus» = lastBusOf x })) (opened.Refused (record { 0 = 8 }))) (x ∷ s) ≡ whole rs → InOrder Nothing rs → Unchanged (x ∷ s)
-unfolding cleanOf runsOf piecesOf changedOf
+unfolding versionOf cleanOf runsOf piecesOf changedOf
 unchanged-by x s rs true e w order =
     let stays = stays-by (suc (length s)) Nothing s rs (omega arith) w order in
     record { same = ap₂ _∷_ (sym (eqb-true x 1 e)) (stays .bytes); no-run = stays .no-run 1; first-kept = rw e }
@@ -136,5 +136,5 @@ pub saved-again : SavedAgain
 saved-again file = let reads = saved-reads file in whole-file-kept (cleanOf file) (keptRecords (piecesOf file)) (reads .0) (reads .1)
 
 pub empty-file : EmptyFile
-unfolding cleanOf runsOf piecesOf piecesFrom changedOf
+unfolding versionOf cleanOf runsOf piecesOf piecesFrom changedOf
 empty-file = (refl, refl, refl)

@@ -1,7 +1,7 @@
 pub mod Cases
 pub mod Fronts
 pub mod Loops
-pub mod Shifts
+pub mod Asking
 pub mod Tallies
 pub mod Sessions
 pub mod Cleans

@@ -11,9 +11,11 @@ use lib.Dec.{eqb, ltb}
 use lib.ListN.{length, take, drop, length-append, length-take, length-drop, take-append-drop}
 use lib.Seq.{length-take-le, take-nil, take-append-add, take-append-seam, drop-drop, take-take}
 use borrow.Author.Tests.{ltb-true, ltb-false}
-use Rattle.salvage.specs.Pieces.{piecesFrom, piecesOf, afterFirst, cleanOf, listed, runsOf, changedOf, recordsIn, skippedIn}
-use Rattle.salvage.specs.Machine.{sum64, keptFrom, skippedFrom, settledKept, settledSkipped, runEnded, waitingIn, takenOf, gatheredOf, gatheredIn, firstOf, begunOf, fedBy, fedOf, behindFirst, roomOf, stretchOf, skippedOf, askedOf, isSettledOf, isChanged, sizeOf, totalsOf, endedOf}
-use Rattle.salvage.specs.Theorems.{Call, feeds, asks, Session, begun, afterCall, after, Exact, ChunksDoNotMatter, GoesOn, GetsThere}
+use Rattle.windows.specs.Windows.{countOf, waitingIn, afterTaking, filledOf, filledRoom}
+use Rattle.windows.proofs.Waiting.{waiting-count, taken-waits, taken-count, taken-inside, filled-waits, filled-few, filled-some}
+use Rattle.salvage.specs.Pieces.{piecesFrom, piecesOf, afterFirst, firstOf, firstIn, versionOf, cleanOf, listed, runsOf, changedOf, recordsIn, skippedIn}
+use Rattle.salvage.specs.Machine.{sum64, keptFrom, skippedFrom, settledKept, settledSkipped, runEnded, gatheredOf, begunOf, fedBy, fedOf, behindFirst, roomOf, stretchOf, skippedOf, askedOf, isSettledOf, isChanged, sizeOf, totalsOf, endedOf}
+use Rattle.salvage.specs.Theorems.{Call, feeds, asks, Session, begun, afterCall, after, Exact, ChunksDoNotMatter, FirstStays, GoesOn, GetsThere}
 use Rattle.salvage.specs.declared.choices.Last.{Last}
 use Rattle.salvage.specs.declared.choices.Last.the-variants.{Nothing}
 use Rattle.salvage.specs.declared.stretches.Stretch.{Stretch}
@@ -27,7 +29,6 @@ use Rattle.salvage.specs.declared.salvages.Totals.{Totals}
 use Rattle.salvage.specs.declared.salvages.Ended.the-variants.{Whole, Early}
 use Rattle.salvage.proofs.Cases.{settled-none, settled-some, run-none, run-some}
 use Rattle.salvage.proofs.Fronts.{by-choice, kept-keep, kept-skip, kept-within, skipped-one, skipped-within}
-use Rattle.salvage.proofs.Shifts.{drop-take}
 use Rattle.salvage.proofs.Tallies.{Tally, tally-same, tell, tell-clean, tell-runs, tell-records, tell-skipped, withSkipped, withRecords, withKept, with-none, with-some, tell-kept, tell-skips, tell-rest}
 
 -- ---- what was given so far, and what waits
@@ -163,20 +164,13 @@ module _ (s : Settled) (waiting rest clean : List ℕ) (runs : List Run) (k : St
 
 -- ---- what every course reaches
 
--- the first of the bytes that were taken
-abbrev seen : List ℕ → First
-seen [] = Missing
-seen (byte ∷ rest) = firstOf byte
-
 record Reached (c : Session) : Type 0 where
-  inside : c .salvage .to ≤ length (c .room)
-  first : c .salvage .first ≡ seen (c .taken)
-  going : Going (c .salvage .settled) (waitingIn (c .salvage) (c .room)) (afterFirst (c .taken)) (c .clean) (c .runs)
-
-waiting-length : (s : Salvage) (room : List ℕ) → s .to ≤ length room → length (waitingIn s room) ≡ s .to - s .from
-waiting-length s room l = length-take-le (s .to - s .from) (drop (s .from) room) (omega (arith, length-drop (s .from) room))
+  inside : c .salvage .window .to ≤ length (c .room)
+  first : c .salvage .first ≡ firstIn (c .taken)
+  going : Going (c .salvage .settled) (waitingIn (c .salvage .window) (c .room)) (afterFirst (c .taken)) (c .clean) (c .runs)
 
 reached-begun : (room : List ℕ) → Reached (begun room)
+unfolding firstIn
 reached-begun room = record {
   inside = omega arith;
   first = refl;
@@ -184,25 +178,6 @@ reached-begun room = record {
 }
 
 -- ---- feeding
-
-module _ (s : Salvage) (room more : List ℕ) where
-  -- what was gathered waits behind what waited
-  gathered-waits : (first : First) → waitingIn (gatheredOf s first room more .salvage) (gatheredIn s room more) ≡ waitingIn s room ++ take (takenOf s room more) more
-  unfolding gatheredOf gatheredIn
-  gathered-waits first =
-      let n = takenOf s room more in
-      let count : length (take n more) ≡ n = length-take-le n more (omega arith) in
-      ap (λ (k : ℕ). take k (gatheredIn s room more)) {x = length (waitingIn s room) + n - 0} {y = length (waitingIn s room) + length (take n more)} (omega (arith, count))
-      ∙ take-append-add (waitingIn s room) (take n more ++ drop (length (waitingIn s room) + n) room) (length (take n more))
-      ∙ ap (λ (k : List ℕ). waitingIn s room ++ k) (take-append-seam (take n more) (drop (length (waitingIn s room) + n) room))
-
-  gathered-inside : (first : First) → gatheredOf s first room more .salvage .to ≤ length (gatheredIn s room more)
-  unfolding gatheredOf gatheredIn
-  gathered-inside first =
-      let n = takenOf s room more in
-      let rest = drop (length (waitingIn s room) + n) room in
-      let count : length (take n more) ≡ n = length-take-le n more (omega arith) in
-      omega (arith, count, length-append (waitingIn s room) (take n more ++ rest), length-append (take n more) rest)
 
 -- a first byte is kept or changed
 first-by : (byte : ℕ) (P : First → Type 0) → P Kept → P Changed → P (firstOf byte)
@@ -215,24 +190,26 @@ first-by byte P k c = by (eqb byte 1)
 
 -- so where it has come, the whole chunk is gathered
 Gathers : Salvage → List ℕ → List ℕ → First → Type 0
-Gathers s room chunk f = (fedBy f s room chunk ≡ gatheredOf s f room chunk) × (gatheredIn s room (behindFirst f chunk) ≡ gatheredIn s room chunk)
+Gathers s room chunk f = (fedBy f s room chunk ≡ gatheredOf s f room chunk) × (filledRoom (s .window) room (behindFirst f chunk) ≡ filledRoom (s .window) room chunk)
 
 later : (s : Salvage) (room chunk : List ℕ) (byte : ℕ) → s .first ≡ firstOf byte → Gathers s room chunk (s .first)
 unfolding Gathers
 later s room chunk byte e = subst (Gathers s room chunk) (sym e) (first-by byte (Gathers s room chunk) (refl, refl) (refl, refl))
 
 reached-gathered : (s : Salvage) (room rest clean : List ℕ) (runs : List Run) (more : List ℕ) (first : First) (taken : List ℕ)
-    → Going (s .settled) (waitingIn s room) rest clean runs → afterFirst taken ≡ rest ++ take (takenOf s room more) more → first ≡ seen taken
-    → Reached (record { salvage = gatheredOf s first room more .salvage; room = gatheredIn s room more; taken = taken; clean = clean; runs = runs })
+    → Going (s .settled) (waitingIn (s .window) room) rest clean runs → afterFirst taken ≡ rest ++ take (filledOf (s .window) room more .taken) more → first ≡ firstIn taken
+    → Reached (record { salvage = gatheredOf s first room more .salvage; room = filledRoom (s .window) room more; taken = taken; clean = clean; runs = runs })
 unfolding gatheredOf
-reached-gathered s room rest clean runs more first taken going rest-is first-is = record {
-  inside = gathered-inside s room more first;
-  first = first-is;
-  going =
-      subst (λ (k : List ℕ). Going (s .settled) k (afterFirst taken) clean runs) (sym (gathered-waits s room more first))
-      (subst (λ (k : List ℕ). Going (s .settled) (waitingIn s room ++ take (takenOf s room more) more) k clean runs) (sym rest-is)
-      (going-fed (s .settled) (waitingIn s room) rest clean runs (take (takenOf s room more) more) going));
-}
+reached-gathered s room rest clean runs more first taken going rest-is first-is =
+    let w = waitingIn (s .window) room in
+    let new = take (filledOf (s .window) room more .taken) more in
+    record {
+      inside = filled-waits (s .window) room more .inside;
+      first = first-is;
+      going =
+          subst (λ (k : List ℕ). Going (s .settled) k (afterFirst taken) clean runs) (sym (filled-waits (s .window) room more .waiting))
+          (subst (λ (k : List ℕ). Going (s .settled) (w ++ new) k clean runs) (sym rest-is) (going-fed (s .settled) w rest clean runs new going));
+    }
 
 -- what a feed that gives this answer and this room reaches
 abbrev FedTo : List ℕ → List ℕ → List Run → List ℕ → Fed → List ℕ → Type 0
@@ -245,22 +222,20 @@ fed-to taken clean runs chunk {f} {g} {r} {q} e h reached =
 
 reached-fed : (s : Salvage) (room taken clean : List ℕ) (runs : List Run) (chunk : List ℕ)
     → Reached (record { salvage = s; room = room; taken = taken; clean = clean; runs = runs }) → FedTo taken clean runs chunk (fedOf s room chunk) (roomOf s room chunk)
-unfolding fedOf roomOf begunOf gatheredOf Gathers
+unfolding fedOf roomOf begunOf gatheredOf firstIn Gathers
 reached-fed s room [] clean runs [] r =
-    fed-to [] clean runs [] (ap (λ (f : First). fedBy f s room []) (r .first)) (ap (λ (f : First). gatheredIn s room (behindFirst f [])) (r .first))
-    (reached-gathered s room [] clean runs [] Missing (take (takenOf s room []) []) (r .going) (ap afterFirst none ∙ sym none) (sym (ap seen none)))
-  where
-    none : _≡_ {A = List ℕ} (take (takenOf s room []) []) []
-    none = take-nil (takenOf s room [])
+    let none : _≡_ {A = List ℕ} (take (filledOf (s .window) room [] .taken) []) [] = take-nil (filledOf (s .window) room [] .taken) in
+    fed-to [] clean runs [] (ap (λ (f : First). fedBy f s room []) (r .first)) (ap (λ (f : First). filledRoom (s .window) room (behindFirst f [])) (r .first))
+    (reached-gathered s room [] clean runs [] Missing (take (filledOf (s .window) room [] .taken) []) (r .going) (ap afterFirst none ∙ sym none) (sym (ap firstIn none)))
 reached-fed s room [] clean runs (x ∷ more) r =
-    let n = takenOf s room more in
+    let n = filledOf (s .window) room more .taken in
     let taken-is : take (n + 1) (x ∷ more) ≡ x ∷ take n more = ap (λ (k : ℕ). take k (x ∷ more)) {x = n + 1} {y = suc n} (omega arith) in
-    fed-to [] clean runs (x ∷ more) (ap (λ (f : First). fedBy f s room (x ∷ more)) (r .first)) (ap (λ (f : First). gatheredIn s room (behindFirst f (x ∷ more))) (r .first))
-    (reached-gathered s room [] clean runs more (firstOf x) (take (n + 1) (x ∷ more)) (r .going) (ap afterFirst taken-is) (sym (ap seen taken-is)))
+    fed-to [] clean runs (x ∷ more) (ap (λ (f : First). fedBy f s room (x ∷ more)) (r .first)) (ap (λ (f : First). filledRoom (s .window) room (behindFirst f (x ∷ more))) (r .first))
+    (reached-gathered s room [] clean runs more (firstOf x) (take (n + 1) (x ∷ more)) (r .going) (ap afterFirst taken-is) (sym (ap firstIn taken-is)))
 reached-fed s room (y ∷ ys) clean runs chunk r =
     let g = later s room chunk y (r .first) in
     fed-to (y ∷ ys) clean runs chunk (g .0) (g .1)
-    (reached-gathered s room ys clean runs chunk (s .first) ((y ∷ ys) ++ take (takenOf s room chunk) chunk) (r .going) refl (r .first))
+    (reached-gathered s room ys clean runs chunk (s .first) ((y ∷ ys) ++ take (filledOf (s .window) room chunk .taken) chunk) (r .going) refl (r .first))
 
 -- ---- asking
 
@@ -273,22 +248,19 @@ reached-asked : (c : Session) → Reached c → length (c .taken) < 2 ^ 64 → R
 unfolding askedOf
 reached-asked c r small =
     let s = c .salvage in
-    let w = waitingIn s (c .room) in
+    let w = waitingIn (s .window) (c .room) in
     let k = stretchOf s (c .room) in
     let n = skippedOf s (c .room) in
-    let long : length w ≡ s .to - s .from = waiting-length s (c .room) (r .inside) in
+    let long : length w ≡ countOf (s .window) = waiting-count (s .window) (c .room) (r .inside) in
     let few : k .bytes + n ≤ length w =
     omega (arith, kept-within (s .settled .last) w, skipped-within (k .last) (drop (k .bytes) w), length-drop (k .bytes) w) in
-    let left : take (s .to - (s .from + (k .bytes + n))) (drop (s .from + (k .bytes + n)) (c .room)) ≡ drop (k .bytes + n) w =
-    ap₂ take {x = s .to - (s .from + (k .bytes + n))} {y = s .to - s .from - (k .bytes + n)} (omega arith) (sym (drop-drop (k .bytes + n) (s .from) (c .room)))
-    ∙ sym (drop-take (k .bytes + n) (s .to - s .from) (drop (s .from) (c .room))) in
-    let given : take (k .bytes) w ≡ take (k .bytes) (drop (s .from) (c .room)) =
-    take-take (k .bytes) (s .to - s .from) (drop (s .from) (c .room)) (omega (arith, few, long)) in
+    let given : take (k .bytes) w ≡ take (k .bytes) (drop (s .window .from) (c .room)) =
+    take-take (k .bytes) (countOf (s .window)) (drop (s .window .from) (c .room)) (omega (arith, few, long)) in
     record {
-      inside = r .inside;
+      inside = taken-inside (s .window) (c .room) (k .bytes + n) (r .inside);
       first = r .first;
       going =
-          subst (λ (x : List ℕ). Going (settledSkipped (settledKept (s .settled) k) n) x (afterFirst (c .taken)) (c .clean ++ take (k .bytes) (drop (s .from) (c .room))) (c .runs ++ listed (runEnded (s .settled) k .place) (runEnded (s .settled) k .length))) (sym left)
+          subst (λ (x : List ℕ). Going (settledSkipped (settledKept (s .settled) k) n) x (afterFirst (c .taken)) (c .clean ++ take (k .bytes) (drop (s .window .from) (c .room))) (c .runs ++ listed (runEnded (s .settled) k .place) (runEnded (s .settled) k .length))) (sym (taken-waits (s .window) (c .room) (k .bytes + n)))
           (subst (λ (x : List ℕ). Going (settledSkipped (settledKept (s .settled) k) n) (drop (k .bytes + n) w) (afterFirst (c .taken)) (c .clean ++ x) (c .runs ++ listed (runEnded (s .settled) k .place) (runEnded (s .settled) k .length))) given
           (going-asked (s .settled) w (afterFirst (c .taken)) (c .clean) (c .runs) k n (r .going) (behind-small (c .taken) small) few refl refl));
     }
@@ -317,19 +289,19 @@ reached c (call ∷ calls) r small =
 -- ---- the end
 
 record Finished (s : Salvage) (t : Totals) : Type 0 where
-  settled : s .to - s .from < 16
+  settled : countOf (s .window) < 16
   totals : t ≡ totalsOf s
 
 finished : (s : Salvage) (t : Totals) → endedOf s ≡ Whole t → Finished s t
 unfolding endedOf isSettledOf
-finished s t e = by (ltb (s .to - s .from) 16) refl e
+finished s t e = by (ltb (countOf (s .window)) 16) refl e
   where
-    by : (b : Bool) → ltb (s .to - s .from) 16 ≡ b → cond b (Whole (totalsOf s)) Early ≡ Whole t → Finished s t
-    by true h q = record { settled = ltb-true (s .to - s .from) 16 h; totals = cc }
+    by : (b : Bool) → ltb (countOf (s .window)) 16 ≡ b → cond b (Whole (totalsOf s)) Early ≡ Whole t → Finished s t
+    by true h q = record { settled = ltb-true (countOf (s .window)) 16 h; totals = cc }
     by false h q = let z : _≡_ {A = ℕ} 0 1 = cc in absurd (omega arith)
 
-changed-is : (taken : List ℕ) → isChanged (seen taken) ≡ changedOf taken
-unfolding changedOf firstOf isChanged
+changed-is : (taken : List ℕ) → isChanged (firstIn taken) ≡ changedOf taken
+unfolding changedOf firstOf firstIn isChanged
 changed-is [] = refl
 changed-is (x ∷ rest) = by (eqb x 1)
   where
@@ -337,8 +309,8 @@ changed-is (x ∷ rest) = by (eqb x 1)
     by true = refl
     by false = refl
 
-size-is : (taken : List ℕ) (run : Run) → run .place + run .length ≡ 1 + length (afterFirst taken) → length taken < 2 ^ 64 → sizeOf (seen taken) run ≡ length taken
-unfolding sizeOf
+size-is : (taken : List ℕ) (run : Run) → run .place + run .length ≡ 1 + length (afterFirst taken) → length taken < 2 ^ 64 → sizeOf (firstIn taken) run ≡ length taken
+unfolding sizeOf firstIn
 size-is [] run e l = refl
 size-is (x ∷ rest) run e l =
     first-by x (λ (f : First). sizeOf f run ≡ length (x ∷ rest)) here here
@@ -346,16 +318,16 @@ size-is (x ∷ rest) run e l =
     here : sum64 (run .place) (run .length) ≡ suc (length rest)
     here = sum-small (run .place) (run .length) (omega arith) ∙ omega arith
 
-exact-totals : (c : Session) → Reached c → length (c .taken) < 2 ^ 64 → c .salvage .to - c .salvage .from < 16 → Exact c (totalsOf (c .salvage))
+exact-totals : (c : Session) → Reached c → length (c .taken) < 2 ^ 64 → countOf (c .salvage .window) < 16 → Exact c (totalsOf (c .salvage))
 unfolding totalsOf cleanOf runsOf piecesOf
 exact-totals c r small few =
     let s = c .salvage .settled in
-    let count = c .salvage .to - c .salvage .from in
-    let w = waitingIn (c .salvage) (c .room) in
+    let count = countOf (c .salvage .window) in
+    let w = waitingIn (c .salvage .window) (c .room) in
     let ps = piecesFrom 0 Nothing (afterFirst (c .taken)) in
     let t = tallied s (c .clean) (c .runs) in
     let places = r .going .places in
-    let long : length w ≡ count = waiting-length (c .salvage) (c .room) (r .inside) in
+    let long : length w ≡ count = waiting-count (c .salvage .window) (c .room) (r .inside) in
     let all = behind-small (c .taken) small in
     let told : tell startTally ps ≡ withSkipped t (length w) =
     ap (λ (k : List ℕ). tell startTally (piecesFrom 0 Nothing k)) (sym (append-nil (afterFirst (c .taken))))
@@ -367,7 +339,7 @@ exact-totals c r small few =
     let skipped-is : sum64 (s .skipped) count ≡ s .skipped + length w =
     sum-small (s .skipped) count (omega (arith, long, places, all, r .going .few-skipped)) ∙ omega (arith, long) in
     record {
-      clean = ap (λ (k : List ℕ). 1 ∷ k) (sym (ap (λ (x : Tally). x .clean) told) ∙ tell-clean startTally ps);
+      clean = ap₂ (λ (f : First) (k : List ℕ). versionOf f ∷ k) (r .first) (sym (ap (λ (x : Tally). x .clean) told) ∙ tell-clean startTally ps);
       runs =
           ap (λ (n : ℕ). c .runs ++ listed (s .run .place) n) length-is
           ∙ sym (ap (λ (x : Tally). x .runs ++ listed (x .place) (x .before)) told)
@@ -388,29 +360,36 @@ exact c t r small e =
 pub chunks-do-not-matter : ChunksDoNotMatter
 chunks-do-not-matter room calls t small e = exact (after (begun room) calls) t (reached (begun room) calls (reached-begun room) small) small e
 
+pub first-stays : FirstStays
+unfolding firstIn
+first-stays [] rest l = absurd (omega arith)
+first-stays (byte ∷ front) rest l = refl
+
 -- ---- it goes on
 
-begun-inside : (s : Salvage) (room chunk : List ℕ) → begunOf s room chunk .salvage .to ≤ length (gatheredIn s room (afterFirst chunk))
-unfolding begunOf
-begun-inside s room [] = gathered-inside s room [] Missing
-begun-inside s room (x ∷ more) = gathered-inside s room more (firstOf x)
+begun-inside : (s : Salvage) (room chunk : List ℕ) → begunOf s room chunk .salvage .window .to ≤ length (filledRoom (s .window) room (afterFirst chunk))
+unfolding begunOf gatheredOf
+begun-inside s room [] = filled-waits (s .window) room [] .inside
+begun-inside s room (x ∷ more) = filled-waits (s .window) room more .inside
 
 -- the waiting bytes stay inside the room, however many calls there are
-pub inside-fed : (s : Salvage) (room chunk : List ℕ) → fedOf s room chunk .salvage .to ≤ length (roomOf s room chunk)
-unfolding fedOf roomOf
-inside-fed s room chunk = by (s .first) chunk
+pub inside-fed : (s : Salvage) (room chunk : List ℕ) → fedOf s room chunk .salvage .window .to ≤ length (roomOf s room chunk)
+unfolding fedOf roomOf gatheredOf
+inside-fed s room chunk = by (s .first)
   where
-    by : (f : First) (chunk : List ℕ) → fedBy f s room chunk .salvage .to ≤ length (gatheredIn s room (behindFirst f chunk))
-    by Missing [] = begun-inside s room []
-    by Missing (x ∷ more) = begun-inside s room (x ∷ more)
-    by Kept chunk = gathered-inside s room chunk Kept
-    by Changed chunk = gathered-inside s room chunk Changed
+    by : (f : First) → fedBy f s room chunk .salvage .window .to ≤ length (filledRoom (s .window) room (behindFirst f chunk))
+    by Missing = begun-inside s room chunk
+    by Kept = filled-waits (s .window) room chunk .inside
+    by Changed = filled-waits (s .window) room chunk .inside
 
-inside-after : (c : Session) (calls : List Call) → c .salvage .to ≤ length (c .room) → after c calls .salvage .to ≤ length (after c calls .room)
+pub inside-asked : (s : Salvage) (room : List ℕ) → s .window .to ≤ length room → askedOf s room .salvage .window .to ≤ length room
 unfolding askedOf
+inside-asked s room l = taken-inside (s .window) room (stretchOf s room .bytes + skippedOf s room) l
+
+inside-after : (c : Session) (calls : List Call) → c .salvage .window .to ≤ length (c .room) → after c calls .salvage .window .to ≤ length (after c calls .room)
 inside-after c [] l = l
 inside-after c (feeds chunk ∷ calls) l = inside-after (afterCall c (feeds chunk)) calls (inside-fed (c .salvage) (c .room) chunk)
-inside-after c (asks ∷ calls) l = inside-after (afterCall c asks) calls l
+inside-after c (asks ∷ calls) l = inside-after (afterCall c asks) calls (inside-asked (c .salvage) (c .room) l)
 
 -- of 16 bytes or more, one at least is settled
 some-settled : (last : Last) (w : List ℕ) → 16 ≤ length w → 0 < keptFrom last w .bytes + skippedFrom (keptFrom last w .last) (drop (keptFrom last w .bytes) w)
@@ -422,26 +401,26 @@ some-settled last (x ∷ w) l =
     subst (λ (k : Stretch). 0 < k .bytes + skippedFrom (k .last) (drop (k .bytes) (x ∷ w))) (sym (kept-skip last (x ∷ w) q))
     (omega (arith, skipped-one last x w l q)))
 
-pub asks-on : (s : Salvage) (room : List ℕ) → s .to ≤ length room → isSettledOf s ≡ false
-    → askedOf s room .salvage .to - askedOf s room .salvage .from < s .to - s .from
+pub asks-on : (s : Salvage) (room : List ℕ) → s .window .to ≤ length room → isSettledOf s ≡ false → countOf (askedOf s room .salvage .window) < countOf (s .window)
 unfolding askedOf isSettledOf
 asks-on s room l h =
-    let many = ltb-false (s .to - s .from) 16 h in
-    let long = waiting-length s room l in
-    omega (arith, many, some-settled (s .settled .last) (waitingIn s room) (omega (arith, many, long)))
+    let many = ltb-false (countOf (s .window)) 16 h in
+    let long = waiting-count (s .window) room l in
+    let n = stretchOf s room .bytes + skippedOf s room in
+    omega (arith, many, taken-count (s .window) n, some-settled (s .settled .last) (waitingIn (s .window) room) (omega (arith, many, long)))
 
 feeds-on : (s : Salvage) (room chunk : List ℕ) → isSettledOf s ≡ true → 16 ≤ length room → 0 < length chunk → 0 < fedOf s room chunk .taken
 unfolding fedOf begunOf gatheredOf isSettledOf
 feeds-on s room chunk h l some = by (s .first) chunk some
   where
-    few : length (waitingIn s room) < 16
-    few = omega (arith, ltb-true (s .to - s .from) 16 h, length-take (s .to - s .from) (drop (s .from) room))
+    few : countOf (s .window) < length room
+    few = omega (arith, ltb-true (countOf (s .window)) 16 h)
 
     by : (f : First) (chunk : List ℕ) → 0 < length chunk → 0 < fedBy f s room chunk .taken
     by Missing [] some = absurd (omega arith)
     by Missing (x ∷ more) some = omega arith
-    by Kept chunk some = omega (arith, few)
-    by Changed chunk some = omega (arith, few)
+    by Kept chunk some = filled-some (s .window) room chunk few some
+    by Changed chunk some = filled-some (s .window) room chunk few some
 
 -- no more is taken than is fed
 pub taken-few : (s : Salvage) (room chunk : List ℕ) → fedOf s room chunk .taken ≤ length chunk
@@ -449,10 +428,10 @@ unfolding fedOf begunOf gatheredOf
 taken-few s room chunk = by (s .first) chunk
   where
     by : (f : First) (chunk : List ℕ) → fedBy f s room chunk .taken ≤ length chunk
-    by Missing [] = omega arith
-    by Missing (x ∷ more) = omega arith
-    by Kept chunk = omega arith
-    by Changed chunk = omega arith
+    by Missing [] = filled-few (s .window) room []
+    by Missing (x ∷ more) = omega (arith, filled-few (s .window) room more)
+    by Kept chunk = filled-few (s .window) room chunk
+    by Changed chunk = filled-few (s .window) room chunk
 
 pub goes-on : GoesOn
 goes-on room calls =
@@ -475,47 +454,29 @@ record Settles (c : Session) : Type 0 where
   room : after c calls .room ≡ c .room
   settled : isSettledOf (after c calls .salvage) ≡ true
 
-settles-by : (fuel : ℕ) (c : Session) (b : Bool) → isSettledOf (c .salvage) ≡ b → c .salvage .to ≤ length (c .room) → c .salvage .to - c .salvage .from ≤ fuel → Settles c
-unfolding askedOf
+settles-by : (fuel : ℕ) (c : Session) (b : Bool) → isSettledOf (c .salvage) ≡ b → c .salvage .window .to ≤ length (c .room) → countOf (c .salvage .window) ≤ fuel → Settles c
 settles-by zero c true h l few = record { calls = []; taken = refl; room = refl; settled = h }
 settles-by zero c false h l few = absurd (omega (arith, asks-on (c .salvage) (c .room) l h))
 settles-by (suc fuel) c true h l few = record { calls = []; taken = refl; room = refl; settled = h }
 settles-by (suc fuel) c false h l few =
     let next = afterCall c asks in
-    let rest = settles-by fuel next (isSettledOf (next .salvage)) refl l (omega (arith, asks-on (c .salvage) (c .room) l h)) in
+    let rest = settles-by fuel next (isSettledOf (next .salvage)) refl (inside-asked (c .salvage) (c .room) l) (omega (arith, asks-on (c .salvage) (c .room) l h)) in
     record { calls = asks ∷ rest .calls; taken = rest .taken; room = rest .room; settled = rest .settled }
 
-settles : (c : Session) → c .salvage .to ≤ length (c .room) → Settles c
-settles c l = settles-by (c .salvage .to - c .salvage .from) c (isSettledOf (c .salvage)) refl l (omega arith)
+settles : (c : Session) → c .salvage .window .to ≤ length (c .room) → Settles c
+settles c l = settles-by (countOf (c .salvage .window)) c (isSettledOf (c .salvage)) refl l (omega arith)
 
 -- a room keeps its size
-gathered-length : (s : Salvage) (room more : List ℕ) → length (gatheredIn s room more) ≡ length room
-unfolding gatheredIn
-gathered-length s room more =
-    let n = takenOf s room more in
-    let w = waitingIn s room in
-    let rest = drop (length w + n) room in
-    let count : length (take n more) ≡ n = length-take-le n more (omega arith) in
-    omega (
-      arith,
-      count,
-      length-append w (take n more ++ rest),
-      length-append (take n more) rest,
-      length-drop (length w + n) room,
-      length-take (s .to - s .from) (drop (s .from) room),
-      length-drop (s .from) room,
-    )
-
 room-length : (s : Salvage) (room chunk : List ℕ) → length (roomOf s room chunk) ≡ length room
 unfolding roomOf
-room-length s room chunk = gathered-length s room (behindFirst (s .first) chunk)
+room-length s room chunk = filled-waits (s .window) room (behindFirst (s .first) chunk) .same-size
 
 record Takes (c : Session) (rest : List ℕ) : Type 0 where
   calls : List Call
   all : after c calls .taken ≡ c .taken ++ rest
   settled : isSettledOf (after c calls .salvage) ≡ true
 
-takes-by : (fuel : ℕ) (c : Session) (rest : List ℕ) → length rest ≤ fuel → c .salvage .to ≤ length (c .room) → 16 ≤ length (c .room) → isSettledOf (c .salvage) ≡ true → Takes c rest
+takes-by : (fuel : ℕ) (c : Session) (rest : List ℕ) → length rest ≤ fuel → c .salvage .window .to ≤ length (c .room) → 16 ≤ length (c .room) → isSettledOf (c .salvage) ≡ true → Takes c rest
 takes-by zero c [] few l room h = record { calls = []; all = sym (append-nil (c .taken)); settled = h }
 takes-by zero c (x ∷ rest) few l room h = absurd (omega arith)
 takes-by (suc fuel) c [] few l room h = record { calls = []; all = sym (append-nil (c .taken)); settled = h }

@@ -1,13 +1,13 @@
 -- The machine that is fed a damaged file chunk by chunk (02 c): what each of its calls gives. That together they give what Pieces.antt says of the
 -- whole file, whatever the chunks, is `chunks-do-not-matter`. Assumes nothing.
-use Prim.Native.Nat.{ℕ, _+_, _-_, _/_, _%_, _^_, min}
+use Prim.Native.Nat.{ℕ, _+_, _/_, _%_, _^_}
 use mathlib.Core.Bool.{Bool, true, false, cond}
-use mathlib.Core.List.{List, [], _∷_, _++_}
+use mathlib.Core.List.{List, [], _∷_}
 use lib.Dec.{ltb, eqb}
-use lib.ListN.{length, take, drop}
+use lib.ListN.{length, drop}
 use Rattle.records.specs.Records.{recordBytes, recordAt}
-use Rattle.records.specs.Files.{version}
-use Rattle.salvage.specs.Pieces.{choiceOf, Piece, kept, skipped, piecesFrom, afterFirst}
+use Rattle.windows.specs.Windows.{emptyWindow, countOf, waitingIn, afterTaking, filledOf, filledRoom}
+use Rattle.salvage.specs.Pieces.{choiceOf, Piece, kept, skipped, piecesFrom, afterFirst, firstOf}
 use Rattle.salvage.specs.declared.choices.Last.{Last}
 use Rattle.salvage.specs.declared.choices.Last.the-variants.{Nothing, At}
 use Rattle.salvage.specs.declared.choices.Choice.{Choice}
@@ -88,34 +88,16 @@ abbrev pub startOf : Salvage
 startOf = record {
   first = Missing;
   settled = record { last = Nothing; run = record { place = 1; length = 0 }; records = 0; skipped = 0 };
-  from = 0;
-  to = 0;
+  window = emptyWindow;
 }
-
--- The bytes that wait.
-abbrev pub waitingIn : Salvage → List ℕ → List ℕ
-waitingIn s room = take (s .to - s .from) (drop (s .from) room)
 
 -- ---- feeding
 
--- Of the bytes handed over, as many are taken as the room has room for.
-abbrev pub takenOf : Salvage → List ℕ → List ℕ → ℕ
-takenOf s room more = min (length room - length (waitingIn s room)) (length more)
-
+-- The bytes handed over wait behind those that wait already, as far as the room has room for them.
 unfoldable pub gatheredOf : Salvage → First → List ℕ → List ℕ → Fed
-gatheredOf s first room more = record {
-  salvage = record { first = first; settled = s .settled; from = 0; to = length (waitingIn s room) + takenOf s room more };
-  taken = takenOf s room more;
-}
-
--- They wait behind those that wait already, all at the front of the room; else it is as before.
-unfoldable pub gatheredIn : Salvage → List ℕ → List ℕ → List ℕ
-gatheredIn s room more =
-    waitingIn s room ++ (take (takenOf s room more) more ++ drop (length (waitingIn s room) + takenOf s room more) room)
-
--- "whether the first byte was changed"
-unfoldable pub firstOf : ℕ → First
-firstOf byte = cond (eqb byte version) Kept Changed
+gatheredOf s first room more =
+    let filled = filledOf (s .window) room more in
+    record { salvage = record { first = first; settled = s .settled; window = filled .window }; taken = filled .taken }
 
 abbrev pub oneMore : Fed → Fed
 oneMore fed = record { salvage = fed .salvage; taken = fed .taken + 1 }
@@ -139,27 +121,26 @@ behindFirst Kept chunk = chunk
 behindFirst Changed chunk = chunk
 
 unfoldable pub roomOf : Salvage → List ℕ → List ℕ → List ℕ
-roomOf s room chunk = gatheredIn s room (behindFirst (s .first) chunk)
+roomOf s room chunk = filledRoom (s .window) room (behindFirst (s .first) chunk)
 
 -- ---- asking
 
 -- Of the bytes that wait: records that are kept, then bytes that are skipped.
 abbrev pub stretchOf : Salvage → List ℕ → Stretch
-stretchOf s room = keptFrom (s .settled .last) (waitingIn s room)
+stretchOf s room = keptFrom (s .settled .last) (waitingIn (s .window) room)
 
 abbrev pub skippedOf : Salvage → List ℕ → ℕ
-skippedOf s room = skippedFrom (stretchOf s room .last) (drop (stretchOf s room .bytes) (waitingIn s room))
+skippedOf s room = skippedFrom (stretchOf s room .last) (drop (stretchOf s room .bytes) (waitingIn (s .window) room))
 
 unfoldable pub askedOf : Salvage → List ℕ → Progress
 askedOf s room = record {
   salvage = record {
     first = s .first;
     settled = settledSkipped (settledKept (s .settled) (stretchOf s room)) (skippedOf s room);
-    from = s .from + (stretchOf s room .bytes + skippedOf s room);
-    to = s .to;
+    window = afterTaking (s .window) (stretchOf s room .bytes + skippedOf s room);
   };
   run = runEnded (s .settled) (stretchOf s room);
-  from = s .from;
+  from = s .window .from;
   kept = stretchOf s room .bytes;
 }
 
@@ -167,7 +148,7 @@ askedOf s room = record {
 
 -- Fewer than 16 bytes wait: nothing more can be settled.
 unfoldable pub isSettledOf : Salvage → Bool
-isSettledOf s = ltb (s .to - s .from) recordBytes
+isSettledOf s = ltb (countOf (s .window)) recordBytes
 
 -- Whether the first byte is listed as changed: "An empty file gives .., with the first byte listed as changed."
 unfoldable pub isChanged : First → Bool
@@ -184,7 +165,7 @@ sizeOf Changed run = sum64 (run .place) (run .length)
 -- The bytes that wait are skipped: fewer than 16 are no record.
 unfoldable pub totalsOf : Salvage → Totals
 totalsOf s =
-    let after = settledSkipped (s .settled) (s .to - s .from) in
+    let after = settledSkipped (s .settled) (countOf (s .window)) in
     record { first = s .first; run = after .run; records = after .records; skipped = after .skipped; bytes = sizeOf (s .first) (after .run) }
 
 -- While 16 or more wait it is too early: one of them may begin a record.

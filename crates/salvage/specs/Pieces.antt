@@ -13,6 +13,8 @@ use Rattle.salvage.specs.declared.choices.Last.{Last}
 use Rattle.salvage.specs.declared.choices.Last.the-variants.{Nothing, At}
 use Rattle.salvage.specs.declared.choices.Choice.{Choice}
 use Rattle.salvage.specs.declared.choices.Choice.the-variants.{Keeps, Skips}
+use Rattle.salvage.specs.declared.salvages.First.{First}
+use Rattle.salvage.specs.declared.salvages.First.the-variants.{Missing, Kept, Changed}
 use Rattle.salvage.specs.declared.salvages.Run.{Run}
 
 -- ---- "walks the bytes after the first, keeps every 16 bytes that read as a record .., and otherwise skips one byte"
@@ -62,7 +64,21 @@ afterFirst (first ∷ rest) = rest
 unfoldable pub piecesOf : List ℕ → List Piece
 piecesOf file = piecesFrom 0 Nothing (afterFirst file)
 
+-- ---- "and whether the first byte was changed"
+
+unfoldable pub firstOf : ℕ → First
+firstOf byte = cond (eqb byte version) Kept Changed
+
+-- The first byte of a file that begins with these bytes.
+unfoldable pub firstIn : List ℕ → First
+firstIn [] = Missing
+firstIn (byte ∷ rest) = firstOf byte
+
 -- ---- "It writes a clean file with version 1"
+
+-- "version 1", whatever the first byte was
+unfoldable pub versionOf : First → ℕ
+versionOf first = version
 
 abbrev pub keptBytes : List Piece → List ℕ
 keptBytes [] = []
@@ -70,7 +86,7 @@ keptBytes (kept bytes ∷ pieces) = bytes ++ keptBytes pieces
 keptBytes (skipped byte ∷ pieces) = keptBytes pieces
 
 unfoldable pub cleanOf : List ℕ → List ℕ
-cleanOf file = version ∷ keptBytes (piecesOf file)
+cleanOf file = versionOf (firstIn file) ∷ keptBytes (piecesOf file)
 
 -- ---- "and lists every skipped run by place and length"
 

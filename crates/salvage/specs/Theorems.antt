@@ -9,7 +9,7 @@ use Rattle.records.specs.Records.{recordBytes, lastBus, recordAt, readOf}
 use Rattle.records.specs.Files.{version, whole, walkOf}
 use Rattle.records.specs.declared.forms.WordRecord.{WordRecord}
 use Rattle.records.specs.declared.forms.Read.the-variants.{Record}
-use Rattle.salvage.specs.Pieces.{inTime, choiceOf, Piece, kept, skipped, piecesFrom, piecesOf, afterFirst, cleanOf, listed, runsOf, changedOf, recordsIn, skippedIn}
+use Rattle.salvage.specs.Pieces.{inTime, choiceOf, Piece, kept, skipped, piecesFrom, piecesOf, afterFirst, firstIn, versionOf, cleanOf, listed, runsOf, changedOf, recordsIn, skippedIn}
 use Rattle.salvage.specs.Machine.{startOf, fedOf, roomOf, askedOf, isSettledOf, isChanged, endedOf}
 use Rattle.salvage.specs.declared.choices.Last.{Last}
 use Rattle.salvage.specs.declared.choices.Last.the-variants.{Nothing, At}
@@ -169,7 +169,7 @@ after c (call ∷ calls) = after (afterCall c call) calls
 
 -- All of it is what the definition says of the bytes that were taken.
 pub record Exact (c : Session) (t : Totals) : Type 0 where
-  pub clean : version ∷ c .clean ≡ cleanOf (c .taken)
+  pub clean : versionOf (t .first) ∷ c .clean ≡ cleanOf (c .taken)
   pub runs : c .runs ++ listed (t .run .place) (t .run .length) ≡ runsOf (c .taken)
   pub first : isChanged (t .first) ≡ changedOf (c .taken)
   pub records : t .records ≡ recordsIn (piecesOf (c .taken))
@@ -183,11 +183,15 @@ ChunksDoNotMatter =
     (room : List ℕ) (calls : List Call) (t : Totals) → length (after (begun room) calls .taken) < 2 ^ 64
     → endedOf (after (begun room) calls .salvage) ≡ Whole t → Exact (after (begun room) calls) t
 
+-- What the first byte of a file is, and with it the version byte of the clean file, is known from any bytes at its front: first-stays
+abbrev pub FirstStays : Type 0
+FirstStays = (front rest : List ℕ) → 0 < length front → firstIn (front ++ rest) ≡ firstIn front
+
 -- Asked while 16 bytes or more wait, it leaves fewer; with a room of 16 bytes or more and fewer than 16 that wait, it takes at least one byte of a
 -- chunk that is not empty: goes-on
 pub record Advances (c : Session) : Type 0 where
   pub asked : isSettledOf (c .salvage) ≡ false
-      → askedOf (c .salvage) (c .room) .salvage .to - askedOf (c .salvage) (c .room) .salvage .from < c .salvage .to - c .salvage .from
+      → askedOf (c .salvage) (c .room) .salvage .window .to - askedOf (c .salvage) (c .room) .salvage .window .from < c .salvage .window .to - c .salvage .window .from
   pub fed : (chunk : List ℕ) → isSettledOf (c .salvage) ≡ true → 16 ≤ length (c .room) → 0 < length chunk
       → 0 < fedOf (c .salvage) (c .room) chunk .taken
 

@@ -1,19 +1,17 @@
 // The machine: fed any chunk, asked for what is settled, ended (02 c). Meaning: specs/Machine.antt. Refusals: none.
 ghost use mathlib.Core.Path.{_≡_};
-ghost use Prim.Native.Nat.{_-_};
-ghost use Rattle.salvage.specs.Pieces.{afterFirst};
-ghost use Rattle.salvage.specs.Machine.{settledKept, settledSkipped, runEnded, firstOf, sizeOf, gatheredOf, gatheredIn, begunOf};
+ghost use Rattle.windows.specs.Windows.{filledRoom};
+ghost use Rattle.salvage.specs.Pieces.{afterFirst, firstIn, versionOf};
+ghost use Rattle.salvage.specs.Machine.{settledKept, settledSkipped, runEnded, sizeOf, gatheredOf, begunOf};
 ghost use Rattle.salvage.specs.Machine.{startOf, fedOf, roomOf, askedOf, isSettledOf, isChanged, totalsOf, endedOf};
 use crate::choices::Last;
-use crate::rooms::fill;
-use crate::rooms::least;
-use crate::rooms::move_front;
 use crate::stretches::Stretch;
 use crate::stretches::keep_stretch;
 use crate::stretches::skip_stretch;
 use records::RECORD_BYTES;
 use records::VERSION;
 use std::num::wrapping_add_u64;
+use windows::Window;
 
 // The first byte of the file: none has come, it is 1, or it is another.
 pub enum First {
@@ -23,6 +21,28 @@ pub enum First {
 }
 
 impl First {
+    // Says what the first byte is of a file that begins with these bytes.
+    // Tables: bytes is only read. Refusals: none.
+    pub fn of(bytes: &[u8]) -> First
+        ensures first { λ r. ⌜ r ≡ firstIn (now (bytes .entry)) ⌝ }
+    {
+        if bytes.len() == 0 {
+            return First::Missing;
+        }
+        if bytes[0] == VERSION {
+            return First::Kept;
+        }
+        First::Changed
+    }
+
+    // Gives the version byte of the clean file, which goes before the bytes to keep.
+    // Tables: none. Refusals: none.
+    pub fn version(self) -> u8
+        ensures version { λ r. ⌜ r ≡ versionOf self ⌝ }
+    {
+        VERSION
+    }
+
     // Says whether the first byte is listed as changed.
     // Tables: none. Refusals: none.
     pub fn is_changed(self) -> bool
@@ -52,13 +72,12 @@ pub struct Settled {
     pub skipped: u64,
 }
 
-// The machine. The bytes that wait stand in the caller's room, from one place up to another: it is lent the same room each time, of 16 bytes
-// or more, and nobody else writes there.
+// The machine. The bytes that wait stand in a window of the caller's room: it is lent the same room each time, of 16 bytes or more, and
+// nobody else writes there.
 pub struct Salvage {
     pub first: First,
     pub settled: Settled,
-    pub from: usize,
-    pub to: usize,
+    pub window: Window,
 }
 
 // The machine after a chunk, and how many bytes of the chunk it took.
@@ -141,17 +160,6 @@ impl Settled {
     }
 }
 
-// Says what a first byte is.
-fn judge_first(byte: u8) -> First
-    ensures first { λ r. ⌜ r ≡ firstOf byte ⌝ }
-{
-    if byte == VERSION {
-        First::Kept
-    } else {
-        First::Changed
-    }
-}
-
 // Gives the size of the file at whose end the run stands.
 fn file_size(first: First, run: Run) -> u64
     ensures bytes { λ r. ⌜ r ≡ sizeOf first run ⌝ }
@@ -181,53 +189,38 @@ impl Salvage {
                 records: 0,
                 skipped: 0,
             },
-            from: 0,
-            to: 0,
-        }
-    }
-
-    // Gives how many bytes wait.
-    fn waiting(self) -> usize
-        ensures count { λ r. ⌜ r ≡ self .to - self .from ⌝ }
-    {
-        if self.to < self.from {
-            0
-        } else {
-            self.to - self.from
+            window: Window::empty(),
         }
     }
 
     // Puts bytes behind those that wait, as far as the room holds them.
     fn gather(self, first: First, room: &mut [u8], chunk: &[u8]) -> Fed
         ensures fed { λ r. ⌜ r ≡ gatheredOf self first (now (room .entry)) (now (chunk .entry)) ⌝ }
-        ensures room { λ _. ⌜ now (room .exit) ≡ gatheredIn self (now (room .entry)) (now (chunk .entry)) ⌝ }
+        ensures room { λ _. ⌜ now (room .exit) ≡ filledRoom (self .window) (now (room .entry)) (now (chunk .entry)) ⌝ }
     {
-        let end = least(self.to, room.len());
-        let begin = least(self.from, end);
-        let waiting = end - begin;
-        move_front(room, begin, waiting);
-        let taken = fill(room, waiting, chunk);
+        let before = self.window;
+        let filled = before.fill(room, chunk);
         let settled = self.settled;
+        let window = filled.window;
         Fed {
             salvage: Salvage {
                 first,
                 settled,
-                from: 0,
-                to: waiting + taken,
+                window,
             },
-            taken,
+            taken: filled.taken,
         }
     }
 
     // Looks at the file's first byte, where there is one, and puts those behind it into the room.
     fn begin(self, room: &mut [u8], chunk: &[u8]) -> Fed
         ensures fed { λ r. ⌜ r ≡ begunOf self (now (room .entry)) (now (chunk .entry)) ⌝ }
-        ensures room { λ _. ⌜ now (room .exit) ≡ gatheredIn self (now (room .entry)) (afterFirst (now (chunk .entry))) ⌝ }
+        ensures room { λ _. ⌜ now (room .exit) ≡ filledRoom (self .window) (now (room .entry)) (afterFirst (now (chunk .entry))) ⌝ }
     {
         if chunk.len() == 0 {
             return self.gather(First::Missing, room, chunk);
         }
-        let fed = self.gather(judge_first(chunk[0]), room, &chunk[1..]);
+        let fed = self.gather(First::of(chunk), room, &chunk[1..]);
         let salvage = fed.salvage;
         Fed {
             salvage,
@@ -256,26 +249,25 @@ impl Salvage {
     pub fn ask(self, room: &[u8]) -> Progress
         ensures progress { λ r. ⌜ r ≡ askedOf self (now (room .entry)) ⌝ }
     {
-        let end = least(self.to, room.len());
-        let begin = least(self.from, end);
+        let window = self.window;
+        let waiting = window.bytes(room);
         let before = self.settled;
         let last = before.last;
-        let stretch = keep_stretch(last, &room[begin..end]);
+        let stretch = keep_stretch(last, waiting);
         let kept = stretch.last;
-        let behind = begin + stretch.bytes;
-        let skipped = skip_stretch(kept, &room[behind..end]);
+        let behind = stretch.bytes;
+        let skipped = skip_stretch(kept, &waiting[behind..]);
         let settled = before.keep(stretch).skip(skipped as u64);
         let first = self.first;
         Progress {
             salvage: Salvage {
                 first,
                 settled,
-                from: self.from + (stretch.bytes + skipped),
-                to: self.to,
+                window: window.after(behind + skipped),
             },
             run: before.ended(stretch),
-            from: self.from,
-            kept: stretch.bytes,
+            from: window.from,
+            kept: behind,
         }
     }
 
@@ -284,7 +276,8 @@ impl Salvage {
     pub fn is_settled(self) -> bool
         ensures answer { λ r. ⌜ r ≡ isSettledOf self ⌝ }
     {
-        self.waiting() < RECORD_BYTES
+        let window = self.window;
+        window.count() < RECORD_BYTES
     }
 
     // Gives what the file came to, where the bytes that wait are skipped.
@@ -293,7 +286,8 @@ impl Salvage {
     {
         let first = self.first;
         let settled = self.settled;
-        let after = settled.skip(self.waiting() as u64);
+        let window = self.window;
+        let after = settled.skip(window.count() as u64);
         let run = after.run;
         Totals {
             first,

@@ -9,7 +9,7 @@ use mathlib.Core.List.{List, [], _∷_, _++_}
 use lib.ListN.{length, take, drop, length-append, length-take, length-drop, drop-of-length-le}
 use lib.Seq.{length-take-le, take-all, take-nil, take-at, take-append-add, take-append-seam, drop-drop, drop-append-add}
 use Rattle.windows.specs.Windows.{emptyWindow, countOf, waitingIn, afterTaking, frontWindow, frontRoom, withMore, takenOf, filledOf, filledRoom}
-use Rattle.windows.specs.Theorems.{EmptyWaits, WaitingCount, TakenWaits, BehindWaits, Waits, FrontWaits, MoreWaits, FilledWaits, FilledFew, FilledSome}
+use Rattle.windows.specs.Theorems.{EmptyWaits, WaitingCount, TakenWaits, TakenCount, TakenInside, BehindWaits, Waits, FrontWaits, MoreWaits, FilledWaits, FilledFew, FilledSome}
 use Rattle.windows.specs.declared.windows.Window.{Window}
 
 -- ---- parts of a list
@@ -93,12 +93,20 @@ taken-waits w room taken =
     ap (λ (n : ℕ). take n (drop (w .from + min taken (countOf w)) room)) {x = w .to - (w .from + min taken (countOf w))} {y = 0} (omega (arith, lt-of-not-le many))
     ∙ sym (drop-of-length-le (waitingIn w room) {i = taken} (omega (arith, lt-of-not-le many, length-take (w .to - w .from) (drop (w .from) room)))))
 
+pub taken-count : TakenCount
+unfolding afterTaking
+taken-count w taken = omega arith
+
+pub taken-inside : TakenInside
+unfolding afterTaking
+taken-inside w room taken l = l
+
 pub behind-waits : BehindWaits
 behind-waits w room room′ e =
     sym (drop-take (w .from) (w .to) room′) ∙ ap (drop (w .from)) e ∙ drop-take (w .from) (w .to) room
 
 -- no more wait than the room has
-waiting-few : (w : Window) (room : List ℕ) → length (waitingIn w room) ≤ length room
+pub waiting-few : (w : Window) (room : List ℕ) → length (waitingIn w room) ≤ length room
 waiting-few w room = omega (arith, length-take (w .to - w .from) (drop (w .from) room), length-drop (w .from) room)
 
 pub front-waits : FrontWaits

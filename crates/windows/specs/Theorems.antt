@@ -1,5 +1,5 @@
 -- What is proved of a window. Each is proved in proofs/ under the name at its side. Assumes nothing.
-use Prim.Native.Nat.{ℕ, _≤_, _<_}
+use Prim.Native.Nat.{ℕ, _-_, _≤_, _<_}
 use mathlib.Core.Path.{_≡_}
 use mathlib.Core.List.{List, [], _++_}
 use lib.ListN.{length, take, drop}
@@ -17,6 +17,14 @@ WaitingCount = (w : Window) (room : List ℕ) → w .to ≤ length room → leng
 -- After so many are taken, those behind them wait: taken-waits
 abbrev pub TakenWaits : Type 0
 TakenWaits = (w : Window) (room : List ℕ) (taken : ℕ) → waitingIn (afterTaking w taken) room ≡ drop taken (waitingIn w room)
+
+-- They are so many fewer: taken-count
+abbrev pub TakenCount : Type 0
+TakenCount = (w : Window) (taken : ℕ) → countOf (afterTaking w taken) ≡ countOf w - taken
+
+-- And the window stays inside the room: taken-inside
+abbrev pub TakenInside : Type 0
+TakenInside = (w : Window) (room : List ℕ) (taken : ℕ) → w .to ≤ length room → afterTaking w taken .to ≤ length room
 
 -- Whatever is written behind those that wait, they wait still: behind-waits
 abbrev pub BehindWaits : Type 0

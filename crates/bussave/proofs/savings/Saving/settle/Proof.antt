@@ -1,16 +1,17 @@
 -- The loop's invariant: what waits stands inside the room. The measure is how many bytes wait. Assumes nothing.
-use Prim.Native.Nat.{_≤_, _-_}
+use Prim.Native.Nat.{_≤_}
 use lib.ListN.{length}
+use Rattle.windows.specs.Windows.{countOf}
 use borrow.Author.Needs.{needs}
 use Rattle.bussave.proofs.Questions.{asked-less, asked-inside}
 use Rattle.bussave.proofs.savings.Saving.settle.Statement.{statement}
 use Rattle.bussave.proofs.savings.Saving.settle.Tie as tie
 
 abbrev Inv-loop : tie.InvT-loop
-Inv-loop room listing₀ saved₀ next₀ listing saved next = next .salvage .to ≤ length room
+Inv-loop room listing₀ saved₀ next₀ listing saved next = next .salvage .window .to ≤ length room
 
 abbrev μ-loop : tie.MeasureT-loop
-μ-loop room listing₀ saved₀ next₀ listing saved next = next .salvage .to - next .salvage .from
+μ-loop room listing₀ saved₀ next₀ listing saved next = countOf (next .salvage .window)
 
 loop-holds : tie.Need-loop-holds Inv-loop μ-loop
 loop-holds c = search needs

@@ -14,11 +14,8 @@ same-length c = search needs
 returns : tie.Need-returns
 returns c = search (begun-none, begun-none-room, needs)
 
-shared-slice-read-judge-first : tie.Need-shared-slice-read-judge-first
-shared-slice-read-judge-first c = search needs
-
-judge-first-requires : tie.Need-judge-first-requires
-judge-first-requires c κs = search needs
+of-requires : tie.Need-of-requires
+of-requires c κs = search needs
 
 sub-gather : tie.Need-sub-gather
 sub-gather c = search needs
@@ -33,7 +30,7 @@ gather-requires-2 : tie.Need-gather-requires-2
 gather-requires-2 c κs = search needs
 
 add-t6 : tie.Need-add-t6
-add-t6 c = omega (arith, begun-fits (c .before .before .before .before .before .before .before .before .before .before .before .before .args .self) (c .before .before .before .before .before .before .before .before .before .before .before .before .args .room .now) (c .before .before .before .before .before .before .before .before .before .before .before .before .args .room .now) (c .before .before .before .before .before .before .before .before .before .before .before .before .args .chunk .now) (c .before .before .before .before .gather2 .result) (c .before .before .before .before .before .before .before .before .before .if1 .left) (c .before .before .before .before .before .before .before .judge-first .result) (c .before .before .before .before .gather2 .ensures .0))
+add-t6 c = omega (arith, begun-fits (c .before .before .before .before .before .before .before .before .before .before .before .args .self) (c .before .before .before .before .before .before .before .before .before .before .before .args .room .now) (c .before .before .before .before .before .before .before .before .before .before .before .args .room .now) (c .before .before .before .before .before .before .before .before .before .before .before .args .chunk .now) (c .before .before .before .before .gather2 .result) (c .before .before .before .before .before .before .before .before .if1 .left) (c .before .before .before .before .before .before .before .of .result) (c .before .before .before .before .gather2 .ensures .0))
 
 same-length-2 : tie.Need-same-length-2
 same-length-2 c = search needs
@@ -48,8 +45,7 @@ begin-spec =
     gather-requires
     same-length
     returns
-    shared-slice-read-judge-first
-    judge-first-requires
+    of-requires
     sub-gather
     part-gather-start
     part-gather-end

@@ -4,12 +4,12 @@ use borrow.Author.Needs.{needs}
 use Rattle.salvage.proofs.salvages.Salvage.is_settled.Statement.{statement}
 use Rattle.salvage.proofs.salvages.Salvage.is_settled.Tie as tie
 
-waiting-requires : tie.Need-waiting-requires
-waiting-requires c κs = search needs
+count-requires : tie.Need-count-requires
+count-requires c κs = search needs
 
 returns : tie.Need-returns
 unfolding isSettledOf
-returns c = rw (c .waiting .ensures)
+returns c = rw (c .count .ensures)
 
 pub is-settled-spec : {M : Type 1} → statement M
-is-settled-spec = tie.close (tie.spec waiting-requires returns)
+is-settled-spec = tie.close (tie.spec count-requires returns)

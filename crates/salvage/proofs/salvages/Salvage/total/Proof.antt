@@ -4,8 +4,8 @@ use borrow.Author.Needs.{needs}
 use Rattle.salvage.proofs.salvages.Salvage.total.Statement.{statement}
 use Rattle.salvage.proofs.salvages.Salvage.total.Tie as tie
 
-waiting-requires : tie.Need-waiting-requires
-waiting-requires c κs = search needs
+count-requires : tie.Need-count-requires
+count-requires c κs = search needs
 
 skip-requires : tie.Need-skip-requires
 skip-requires c κs = search needs
@@ -17,4 +17,4 @@ returns : tie.Need-returns
 returns c = search (totals, needs)
 
 pub total-spec : {M : Type 1} → statement M
-total-spec = tie.close (tie.spec waiting-requires skip-requires file-size-requires returns)
+total-spec = tie.close (tie.spec count-requires skip-requires file-size-requires returns)
