@@ -3,21 +3,19 @@
 ghost use Prim.Native.Nat.{_≤_};
 ghost use lib.ListN.{length};
 use lines::Block;
-use lines::between;
 use monitor::Found;
 use monitor::Side;
 use monitor::Stop;
 use records::Opened;
 use records::open_file;
-use std::num::wrapping_add_usize;
+use windows::Window;
 use words::Refusal;
 
 // A reading: its own descriptor of the file, the side, which bytes of the chunk wait, and whether a read has failed.
 pub(crate) struct Reader {
     pub(crate) fd: i32,
     pub(crate) side: Side,
-    pub(crate) from: usize,
-    pub(crate) to: usize,
+    pub(crate) window: Window,
     pub(crate) failed: bool,
 }
 
@@ -26,23 +24,6 @@ pub(crate) enum Begun {
     Behind(Reader),
     Refused(Refusal, usize),
     Failed,
-}
-
-// Moves the bytes from a place up to another to the front, and gives how many they are.
-fn move_front(chunk: &mut [u8], from: usize, to: usize) -> usize
-    ensures kept { λ r. ⌜ r ≤ length (now (chunk .exit)) ⌝ }
-{
-    if to > chunk.len() {
-        return 0;
-    }
-    let mut at = from;
-    let mut kept = 0;
-    while at < to {
-        chunk[kept] = chunk[at];
-        at += 1;
-        kept += 1;
-    }
-    kept
 }
 
 // Reads on behind so many bytes, and gives what the system answers.
@@ -60,12 +41,12 @@ impl Reader {
             return Begun::Failed;
         }
         let count = io::count(got, chunk);
-        match open_file(between(chunk, 0, count)) {
+        let window = Window::empty().with_more(chunk, count);
+        match open_file(window.bytes(chunk)) {
             Opened::At(cursor) => Begun::Behind(Reader {
                 fd,
                 side: Side::start(bus),
-                from: cursor.at,
-                to: count,
+                window: window.after(cursor.at),
                 failed: false,
             }),
             Opened::Refused(refusal) => Begun::Refused(refusal, count),
@@ -74,12 +55,23 @@ impl Reader {
 
     // Gives the reading after bytes of the chunk, so many of which were taken.
     fn after(self, side: Side, taken: usize) -> Reader {
+        let window = self.window;
         Reader {
             fd: self.fd,
             side,
-            from: wrapping_add_usize(self.from, taken),
-            to: self.to,
+            window: window.after(taken),
             failed: self.failed,
+        }
+    }
+
+    // Gives the reading with these bytes of the chunk, or with a read that failed.
+    fn with(self, window: Window, failed: bool) -> Reader {
+        let side = self.side;
+        Reader {
+            fd: self.fd,
+            side,
+            window,
+            failed,
         }
     }
 
@@ -89,32 +81,23 @@ impl Reader {
         self.after(side.end(tail), 0)
     }
 
-    // Gives the reading with a chunk of so many bytes that were kept and so many that came, or with a read that failed.
-    fn with(self, kept: usize, came: usize, failed: bool) -> Reader {
-        let side = self.side;
-        Reader {
-            fd: self.fd,
-            side,
-            from: 0,
-            to: wrapping_add_usize(kept, came),
-            failed,
-        }
-    }
-
     // Reads on, behind the bytes of a record that is not whole yet.
     fn refill(self, chunk: &mut Block) -> Reader {
-        let kept = move_front(chunk, self.from, self.to);
-        let got = read_behind(self.fd, chunk, kept);
+        let before = self.window;
+        let window = before.make_room(chunk);
+        let got = read_behind(self.fd, chunk, window.to);
         if got == 0 {
-            return self.end(between(chunk, 0, kept));
+            return self.end(window.bytes(chunk));
         }
-        self.with(kept, io::count(got, chunk), got < 0)
+        let came = io::count(got, chunk);
+        self.with(window.with_more(chunk, came), got < 0)
     }
 
     // Brings the side to its next entry, or to the end of the chunk; where no record of it waits any more, the next is read.
     pub(crate) fn feed(self, chunk: &mut Block) -> Reader {
         let side = self.side;
-        let fed = side.feed(between(chunk, self.from, self.to));
+        let window = self.window;
+        let fed = side.feed(window.bytes(chunk));
         let taken = fed.taken;
         if taken == 0 {
             return self.refill(chunk);

@@ -5,6 +5,7 @@ use libc::STDERR_FILENO;
 use lines::Block;
 use lines::Sink;
 use lines::begin_complaint;
+use lines::between;
 use records::LAST_BUS;
 use records::RECORD_BYTES;
 use records::Read;
@@ -15,9 +16,6 @@ use std::num::wrapping_add_u64;
 use std::num::wrapping_add_usize;
 use std::num::wrapping_sub_u64;
 use words::Moment;
-
-// "length (2 bytes, always 14)", its second byte
-const LENGTH: u8 = 14;
 
 // How many there are of a kind, and the place of the first in the damaged file.
 pub(crate) struct Kind {
@@ -101,29 +99,6 @@ fn put_grouped(sink: Sink, block: &mut Block, number: u64) -> Sink {
     put_three(middle, block, number)
 }
 
-// Says whether the two bytes at a place are a record's length.
-fn is_length(room: &[u8], at: usize) -> bool {
-    if at >= room.len() {
-        return false;
-    }
-    if room[at] != 0 {
-        return false;
-    }
-    let behind = &room[at..];
-    if behind.len() < 2 {
-        return false;
-    }
-    behind[1] == LENGTH
-}
-
-// Gives the bytes from a place on.
-fn behind(room: &[u8], at: usize) -> &[u8] {
-    if at <= room.len() {
-        return &room[at..];
-    }
-    &room[0..0]
-}
-
 impl Strays {
     // Gives none of either kind.
     pub(crate) fn none() -> Strays {
@@ -165,9 +140,8 @@ impl Strays {
         let mut next = self;
         let mut at = from;
         while at < to {
-            if is_length(room, at) {
-                next = next.with(behind(room, at), wrapping_add_u64(base, at as u64), last);
-            }
+            let bytes = between(room, at, room.len());
+            next = next.with(bytes, wrapping_add_u64(base, at as u64), last);
             at += 1;
         }
         next
@@ -175,6 +149,9 @@ impl Strays {
 
     // Gives the strays with those that a question to the machine skipped, behind what it kept. Before the first kept record no time is refused.
     pub(crate) fn after(self, room: &[u8], progress: Progress) -> Strays {
+        if progress.strays == 0 {
+            return self;
+        }
         let salvage = progress.salvage;
         let settled = salvage.settled;
         let last = settled.last;

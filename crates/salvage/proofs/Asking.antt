@@ -8,8 +8,9 @@ use lib.Seq.{take-all}
 use Rattle.windows.specs.Windows.{waitingIn, afterTaking}
 use Rattle.windows.proofs.Waiting.{waiting-few}
 use Rattle.windows.specs.declared.windows.Window.{Window}
-use Rattle.salvage.specs.Machine.{keptFrom, skippedFrom, settledKept, settledSkipped, runEnded, stretchOf, skippedOf, askedOf}
+use Rattle.salvage.specs.Machine.{keptFrom, skipsFrom, settledKept, settledSkipped, runEnded, askedOf}
 use Rattle.salvage.specs.declared.stretches.Stretch.{Stretch}
+use Rattle.salvage.specs.declared.stretches.Skipped.{Skipped}
 use Rattle.salvage.specs.declared.salvages.Run.{Run}
 use Rattle.salvage.specs.declared.salvages.Settled.{Settled}
 use Rattle.salvage.specs.declared.salvages.Salvage.{Salvage}
@@ -20,32 +21,32 @@ module _ (s : Salvage) (room waiting : List ℕ) (w : waiting ≡ waitingIn (s .
   pub kept-inside : stretch .bytes ≤ length waiting
   kept-inside = omega (arith, kept-within (s .settled .last) waiting, ap (λ (k : Stretch). k .bytes) q)
 
-  module _ (n : ℕ) (p : n ≡ skippedFrom (stretch .last) (take (length waiting - stretch .bytes) (drop (stretch .bytes) waiting))) where
+  module _ (k : Skipped) (p : k ≡ skipsFrom (stretch .last) (take (length waiting - stretch .bytes) (drop (stretch .bytes) waiting))) where
     -- all behind the stretch was looked at
-    rest-is : n ≡ skippedFrom (stretch .last) (drop (stretch .bytes) waiting)
-    rest-is = p ∙ ap (skippedFrom (stretch .last)) (take-all (length waiting - stretch .bytes) (drop (stretch .bytes) waiting) (omega (arith, length-drop (stretch .bytes) waiting)))
+    rest-is : k ≡ skipsFrom (stretch .last) (drop (stretch .bytes) waiting)
+    rest-is = p ∙ ap (skipsFrom (stretch .last)) (take-all (length waiting - stretch .bytes) (drop (stretch .bytes) waiting) (omega (arith, length-drop (stretch .bytes) waiting)))
 
-    all-inside : stretch .bytes + n ≤ length waiting
-    all-inside =
+    pub in-room : stretch .bytes + k .bytes ≤ length room
+    in-room =
         omega (
           arith,
           kept-inside,
-          rest-is,
+          ap (λ (x : Skipped). x .bytes) rest-is,
           length-drop (stretch .bytes) waiting,
           skipped-within (stretch .last) (drop (stretch .bytes) waiting),
+          ap length w,
+          waiting-few (s .window) room,
         )
 
-    pub in-room : stretch .bytes + n ≤ length room
-    in-room = omega (arith, all-inside, ap length w, waiting-few (s .window) room)
-
-    pub asked : (kept after : Settled) (run : Run) (window : Window) → kept ≡ settledKept (s .settled) stretch → after ≡ settledSkipped kept n
-        → window ≡ afterTaking (s .window) (stretch .bytes + n) → run ≡ runEnded (s .settled) stretch
+    pub asked : (kept after : Settled) (run : Run) (window : Window) → kept ≡ settledKept (s .settled) stretch → after ≡ settledSkipped kept (k .bytes)
+        → window ≡ afterTaking (s .window) (stretch .bytes + k .bytes) → run ≡ runEnded (s .settled) stretch
         → record {
           salvage = record { first = s .first; settled = after; window = window };
           run = run;
           from = s .window .from;
           kept = stretch .bytes;
+          strays = k .strays;
         }
         ≡ askedOf s room
     unfolding askedOf
-    asked kept after run window k a v h = rw (a, k, v, h, rest-is, q, w)
+    asked kept after run window u a v h = rw (a, u, v, h, rest-is, q, w)

@@ -16,9 +16,10 @@ use Rattle.windows.specs.Windows.{countOf, filledOf, filledRoom}
 use Rattle.windows.specs.declared.windows.Filled.{Filled}
 use Rattle.windows.proofs.Waiting.{filled-few}
 use Rattle.salvage.specs.Pieces.{inTime, chosen, choiceOf, afterFirst, firstOf, firstIn}
-use Rattle.salvage.specs.Machine.{sum64, settledKept, settledSkipped, runEnded, gatheredOf, oneMore, begunOf, fedBy, fedOf, behindFirst, roomOf, isSettledOf, sizeOf, totalsOf, endedOf}
+use Rattle.salvage.specs.Machine.{sum64, placeBy, placeOf, settledKept, settledSkipped, runEnded, gatheredOf, oneMore, begunOf, fedBy, fedOf, behindFirst, roomOf, isSettledOf, sizeOf, totalsOf, endedOf}
 use Rattle.salvage.specs.declared.choices.Last.{Last}
 use Rattle.salvage.specs.declared.choices.Choice.the-variants.{Keeps, Skips}
+use Rattle.salvage.specs.declared.choices.Place.the-variants as place
 use Rattle.salvage.specs.declared.stretches.Stretch.{Stretch}
 use Rattle.salvage.specs.declared.salvages.First.{First}
 use Rattle.salvage.specs.declared.salvages.First.the-variants.{Missing, Kept, Changed}
@@ -43,6 +44,18 @@ module _ (last : Last) (s : List ℕ) (g : Read) (e : g ≡ readOf lastBus s) wh
   pub choice-late : (r : WordRecord) (b : Bool) → g ≡ Record r → b ≡ inTime last (r .time .0) → b ≡ false → Skips ≡ choiceOf last s
   unfolding choiceOf
   choice-late r b q t h = rw (← e, q, ← t, h)
+
+  pub place-refused : (n : Refusal) → g ≡ Refused n → place.Skips 0 ≡ placeOf last s
+  unfolding placeOf
+  place-refused n q = ap (placeBy last) (sym q ∙ e)
+
+  pub place-kept : (r : WordRecord) (b : Bool) → g ≡ Record r → b ≡ inTime last (r .time .0) → b ≡ true → place.Keeps ≡ placeOf last s
+  unfolding placeOf
+  place-kept r b q t h = rw (← e, q, ← t, h)
+
+  pub place-late : (r : WordRecord) (b : Bool) → g ≡ Record r → b ≡ inTime last (r .time .0) → b ≡ false → place.Skips 1 ≡ placeOf last s
+  unfolding placeOf
+  place-late r b q t h = rw (← e, q, ← t, h)
 
 -- ---- what is settled
 

@@ -8,7 +8,7 @@ use mathlib.Core.Logic.{dite}
 use mathlib.Core.Bool.{Bool, true, false, cond}
 use mathlib.Core.List.{List, [], _∷_, _++_, append-nil}
 use lib.ListN.{length, take, drop, length-drop, take-append-drop}
-use lib.Seq.{length-take-le}
+use lib.Seq.{length-take-le, drop-drop}
 use borrow.Author.Tests.{lt-ltb, le-ltb}
 use Rattle.words.specs.declared.times.Moment.{Moment}
 use Rattle.records.specs.Records.{lastBus, recordAt, readOf}
@@ -18,12 +18,14 @@ use Rattle.records.specs.declared.forms.Read.the-variants.{Record, Refused}
 use Rattle.records.proofs.Cases.{short}
 use Rattle.records.proofs.Theorems.{read-good, read-front}
 use Rattle.salvage.specs.Pieces.{inTime, chosen, choiceOf, Piece, kept, skipped, piecesFrom}
-use Rattle.salvage.specs.Machine.{longer, frontOf, keptFrom, skippedFrom}
+use Rattle.salvage.specs.Machine.{longer, frontOf, keptFrom, skippedFrom, placeBy, placeOf, strayIn, straysIn}
+use Rattle.salvage.proofs.Cases.{choice-kept}
 use Rattle.salvage.specs.Theorems.{InTime}
 use Rattle.salvage.specs.declared.choices.Last.{Last}
 use Rattle.salvage.specs.declared.choices.Last.the-variants.{At}
 use Rattle.salvage.specs.declared.choices.Choice.{Choice}
 use Rattle.salvage.specs.declared.choices.Choice.the-variants.{Keeps, Skips}
+use Rattle.salvage.specs.declared.choices.Place.the-variants as place
 use Rattle.salvage.specs.declared.stretches.Stretch.{Stretch}
 
 -- ---- the choice
@@ -120,6 +122,55 @@ skipped-kept last (x ∷ s) t q = rw (le-ltb _ _ (choice-long last (x ∷ s) t q
 pub skipped-one : (last : Last) (x : ℕ) (s : List ℕ) → 16 ≤ length (x ∷ s) → choiceOf last (x ∷ s) ≡ Skips → skippedFrom last (x ∷ s) ≡ skippedFrom last s + 1
 unfolding skippedFrom
 skipped-one last x s l q = rw (le-ltb _ _ l, q)
+
+-- ---- a place among skipped bytes
+
+-- it is one to keep or to skip as the choice is, and says whether a record stands there
+pub record Passed (last : Last) (s : List ℕ) (stray : ℕ) : Type 0 where
+  pub skips : choiceOf last s ≡ Skips
+  pub counted : stray ≡ strayIn (readOf s)
+
+pub place-skips : (last : Last) (s : List ℕ) (stray : ℕ) → placeOf last s ≡ place.Skips stray → Passed last s stray
+unfolding placeOf choiceOf
+place-skips last s stray q = by (readOf s) refl q
+  where
+    late : (r : WordRecord) (b : Bool) → readOf s ≡ Record r → inTime last (r .time .0) ≡ b → cond b place.Keeps (place.Skips 1) ≡ place.Skips stray → Passed last s stray
+    late r true e h k = let z : _≡_ {A = ℕ} 0 1 = cc in absurd (omega arith)
+    late r false e h k = record { skips = rw (e, h); counted = rw e (cc) }
+
+    by : (g : Read) → readOf s ≡ g → placeBy last g ≡ place.Skips stray → Passed last s stray
+    by (Record r) e k = late r (inTime last (r .time .0)) e refl k
+    by (Refused n) e k = record { skips = rw e; counted = rw e (cc) }
+
+pub place-keeps : (last : Last) (s : List ℕ) → placeOf last s ≡ place.Keeps → skippedFrom last s ≡ 0
+unfolding placeOf
+place-keeps last s q = by (readOf s) refl q
+  where
+    kept-by : (r : WordRecord) (b : Bool) → readOf s ≡ Record r → inTime last (r .time .0) ≡ b → cond b place.Keeps (place.Skips 1) ≡ place.Keeps → skippedFrom last s ≡ 0
+    kept-by r true e h k = skipped-kept last s (r .time) (sym (choice-kept last s _ (sym e) r true refl (sym h) refl))
+    kept-by r false e h k = let z : _≡_ {A = ℕ} 0 1 = cc in absurd (omega arith)
+
+    by : (g : Read) → readOf s ≡ g → placeBy last g ≡ place.Keeps → skippedFrom last s ≡ 0
+    by (Record r) e k = kept-by r (inTime last (r .time .0)) e refl k
+    by (Refused n) e k = let z : _≡_ {A = ℕ} 0 1 = cc in absurd (omega arith)
+
+-- one place more
+pub strays-next : (n : ℕ) (s : List ℕ) → straysIn (n + 1) s ≡ straysIn n s + strayIn (readOf (drop n s))
+strays-next zero s = omega arith
+strays-next (suc n) s =
+    ap (λ (k : ℕ). straysIn k s) {x = suc n + 1} {y = suc (n + 1)} (omega arith)
+    ∙ ap (λ (k : ℕ). strayIn (readOf s) + k) (strays-next n (drop 1 s))
+    ∙ ap (λ (k : List ℕ). strayIn (readOf s) + (straysIn n (drop 1 s) + strayIn (readOf k))) (drop-drop n 1 s ∙ ap (λ (k : ℕ). drop k s) {x = 1 + n} {y = suc n} (omega arith))
+    ∙ omega arith
+
+-- no place has more than one
+stray-few : (g : Read) → strayIn g ≤ 1
+stray-few (Record r) = omega arith
+stray-few (Refused n) = omega arith
+
+pub strays-few : (n : ℕ) (s : List ℕ) → straysIn n s ≤ n
+strays-few zero s = omega arith
+strays-few (suc n) s = omega (arith, stray-few (readOf s), strays-few n (drop 1 s))
 
 -- ---- no stretch is longer than the bytes
 

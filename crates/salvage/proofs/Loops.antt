@@ -1,5 +1,5 @@
 -- The stretches as the code's loops make them: what is left at a place, with what came before it, is what the whole gives. Assumes nothing.
-use mathlib.Core.Path.{_≡_, sym, ap, _∙_}
+use mathlib.Core.Path.{_≡_, refl, sym, ap, ap₂, _∙_}
 use Prim.Native.Nat.{ℕ, suc, _+_, _-_, _≤_, _<_}
 use native.Mathlib.Nat.{zero-add, add-zero}
 use native.Mathlib.Omega.{arith}
@@ -8,13 +8,15 @@ use lib.ListN.{length, getD, take, drop, length-drop}
 use lib.Seq.{take-all, drop-drop, drop-cons}
 use Rattle.words.specs.declared.times.Moment.{Moment}
 use Rattle.salvage.specs.Pieces.{choiceOf}
-use Rattle.salvage.specs.Machine.{longer, keptFrom, skippedFrom}
+use Rattle.salvage.specs.Machine.{longer, keptFrom, skippedFrom, placeOf, straysIn, skipsFrom}
 use Rattle.salvage.specs.declared.choices.Last.{Last}
 use Rattle.salvage.specs.declared.choices.Last.the-variants.{At}
 use Rattle.salvage.specs.declared.choices.Choice.{Choice}
 use Rattle.salvage.specs.declared.choices.Choice.the-variants.{Keeps, Skips}
+use Rattle.salvage.specs.declared.choices.Place.{Place}
+use Rattle.salvage.specs.declared.choices.Place.the-variants as place
 use Rattle.salvage.specs.declared.stretches.Stretch.{Stretch}
-use Rattle.salvage.proofs.Fronts.{choice-short, kept-keep, kept-skip, skipped-short, skipped-kept, skipped-one}
+use Rattle.salvage.proofs.Fronts.{choice-short, kept-keep, kept-skip, skipped-short, skipped-one, place-skips, place-keeps, strays-next, strays-few}
 
 -- what the code chooses of the rest of the bytes
 rest-choice : (last : Last) (s : List ℕ) (at : ℕ) (g x : Choice) → at ≤ length s → g ≡ choiceOf last (take (length s - at) (drop at s)) → g ≡ x → choiceOf last (drop at s) ≡ x
@@ -61,34 +63,50 @@ module _ (s : List ℕ) (first last : Last) (at : ℕ) (keeping : Keeping s firs
 
 -- ---- bytes that are skipped
 
-pub record Skipping (s : List ℕ) (last : Last) (at : ℕ) : Type 0 where
+pub record Skipping (s : List ℕ) (last : Last) (at strays : ℕ) : Type 0 where
   pub inside : at ≤ length s
   pub same : skippedFrom last s ≡ at + skippedFrom last (drop at s)
+  pub counted : strays ≡ straysIn at s
+  pub few : strays ≤ at
 
-pub skipping-start : (s : List ℕ) (last : Last) → Skipping s last 0
-skipping-start s last = record { inside = omega arith; same = sym (zero-add (skippedFrom last s)) }
+pub skipping-start : (s : List ℕ) (last : Last) → Skipping s last 0 0
+skipping-start s last = record { inside = omega arith; same = sym (zero-add (skippedFrom last s)); counted = refl; few = omega arith }
 
-module _ (s : List ℕ) (last : Last) (at : ℕ) (skipping : Skipping s last at) where
-  ends : skippedFrom last (drop at s) ≡ 0 → at ≡ skippedFrom last s
-  ends e = sym (add-zero at) ∙ sym (ap (λ (k : ℕ). at + k) e) ∙ sym (skipping .same)
+module _ (s : List ℕ) (last : Last) (at strays : ℕ) (skipping : Skipping s last at strays) where
+  ends : skippedFrom last (drop at s) ≡ 0 → record { bytes = at; strays = strays } ≡ skipsFrom last s
+  ends e =
+      let all : at ≡ skippedFrom last s = sym (add-zero at) ∙ sym (ap (λ (k : ℕ). at + k) e) ∙ sym (skipping .same) in
+      ap₂ (λ (n k : ℕ). record { bytes = n; strays = k }) all (skipping .counted ∙ ap (λ (n : ℕ). straysIn n s) all)
 
-  pub skipping-short : length s - at < 16 → at ≡ skippedFrom last s
+  pub skipping-short : length s - at < 16 → record { bytes = at; strays = strays } ≡ skipsFrom last s
   skipping-short l = ends (skipped-short last (drop at s) (omega (arith, length-drop at s)))
 
-  module _ (g : Choice) (l : 16 ≤ length s - at) (e : g ≡ choiceOf last (take (length s - at) (drop at s))) where
-    pub skipping-stop : (t : Moment) → g ≡ Keeps t → at ≡ skippedFrom last s
-    skipping-stop t q = ends (skipped-kept last (drop at s) t (rest-choice last s at g (Keeps t) (skipping .inside) e q))
+  module _ (g : Place) (l : 16 ≤ length s - at) (e : g ≡ placeOf last (take (length s - at) (drop at s))) where
+    -- what the code sees of the rest of the bytes
+    rest-place : (x : Place) → g ≡ x → placeOf last (drop at s) ≡ x
+    rest-place x q = sym (ap (placeOf last) (take-all (length s - at) (drop at s) (omega (arith, length-drop at s)))) ∙ sym e ∙ q
 
-    one : g ≡ Skips → skippedFrom last (drop at s) ≡ skippedFrom last (drop (at + 1) s) + 1
-    one q =
-        let choice = rest-choice last s at g Skips (skipping .inside) e q in
+    pub skipping-stop : g ≡ place.Keeps → record { bytes = at; strays = strays } ≡ skipsFrom last s
+    skipping-stop q = ends (place-keeps last (drop at s) (rest-place place.Keeps q))
+
+    one : choiceOf last (drop at s) ≡ Skips → skippedFrom last (drop at s) ≡ skippedFrom last (drop (at + 1) s) + 1
+    one choice =
         let front : drop at s ≡ getD s at 0 ∷ drop (at + 1) s =
         drop-cons s at 0 (omega arith) ∙ ap (λ (k : ℕ). getD s at 0 ∷ drop k s) {x = suc at} {y = at + 1} (omega arith) in
         ap (skippedFrom last) front
         ∙ skipped-one last (getD s at 0) (drop (at + 1) s) (omega (arith, length-drop (at + 1) s)) (sym (ap (choiceOf last) front) ∙ choice)
 
-    pub skipping-next : g ≡ Skips → Skipping s last (at + 1)
-    skipping-next q = record {
-      inside = omega (arith, skipping .inside);
-      same = skipping .same ∙ ap (λ (k : ℕ). at + k) (one q) ∙ omega arith;
-    }
+    pub skipping-next : (stray : ℕ) → g ≡ place.Skips stray → Skipping s last (at + 1) (strays + stray)
+    skipping-next stray q =
+        let passed = place-skips last (drop at s) stray (rest-place (place.Skips stray) q) in
+        let counted : strays + stray ≡ straysIn (at + 1) s = ap₂ _+_ (skipping .counted) (passed .counted) ∙ sym (strays-next at s) in
+        record {
+          inside = omega (arith, skipping .inside);
+          same = skipping .same ∙ ap (λ (k : ℕ). at + k) (one (passed .skips)) ∙ omega arith;
+          counted = counted;
+          few = omega (arith, counted, strays-few (at + 1) s);
+        }
+
+    -- the count fits, since no place counts more than once
+    pub stray-fits : (stray : ℕ) → g ≡ place.Skips stray → strays + stray ≤ length s
+    stray-fits stray q = omega (arith, skipping-next stray q .few)

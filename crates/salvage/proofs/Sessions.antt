@@ -14,7 +14,7 @@ use borrow.Author.Tests.{ltb-true, ltb-false}
 use Rattle.windows.specs.Windows.{countOf, waitingIn, afterTaking, filledOf, filledRoom}
 use Rattle.windows.proofs.Waiting.{waiting-count, taken-waits, taken-count, taken-inside, filled-waits, filled-few, filled-some}
 use Rattle.salvage.specs.Pieces.{piecesFrom, piecesOf, afterFirst, firstOf, firstIn, versionOf, cleanOf, listed, runsOf, changedOf, recordsIn, skippedIn}
-use Rattle.salvage.specs.Machine.{sum64, keptFrom, skippedFrom, settledKept, settledSkipped, runEnded, gatheredOf, begunOf, fedBy, fedOf, behindFirst, roomOf, stretchOf, skippedOf, askedOf, isSettledOf, isChanged, sizeOf, totalsOf, endedOf}
+use Rattle.salvage.specs.Machine.{sum64, keptFrom, skippedFrom, settledKept, settledSkipped, runEnded, gatheredOf, begunOf, fedBy, fedOf, behindFirst, roomOf, stretchOf, skipsOf, askedOf, isSettledOf, isChanged, sizeOf, totalsOf, endedOf}
 use Rattle.salvage.specs.Theorems.{Call, feeds, asks, Session, begun, afterCall, after, Exact, ChunksDoNotMatter, FirstStays, GoesOn, GetsThere}
 use Rattle.salvage.specs.declared.choices.Last.{Last}
 use Rattle.salvage.specs.declared.choices.Last.the-variants.{Nothing}
@@ -250,7 +250,7 @@ reached-asked c r small =
     let s = c .salvage in
     let w = waitingIn (s .window) (c .room) in
     let k = stretchOf s (c .room) in
-    let n = skippedOf s (c .room) in
+    let n = skipsOf s (c .room) .bytes in
     let long : length w ≡ countOf (s .window) = waiting-count (s .window) (c .room) (r .inside) in
     let few : k .bytes + n ≤ length w =
     omega (arith, kept-within (s .settled .last) w, skipped-within (k .last) (drop (k .bytes) w), length-drop (k .bytes) w) in
@@ -384,7 +384,7 @@ inside-fed s room chunk = by (s .first)
 
 pub inside-asked : (s : Salvage) (room : List ℕ) → s .window .to ≤ length room → askedOf s room .salvage .window .to ≤ length room
 unfolding askedOf
-inside-asked s room l = taken-inside (s .window) room (stretchOf s room .bytes + skippedOf s room) l
+inside-asked s room l = taken-inside (s .window) room (stretchOf s room .bytes + skipsOf s room .bytes) l
 
 inside-after : (c : Session) (calls : List Call) → c .salvage .window .to ≤ length (c .room) → after c calls .salvage .window .to ≤ length (after c calls .room)
 inside-after c [] l = l
@@ -406,7 +406,7 @@ unfolding askedOf isSettledOf
 asks-on s room l h =
     let many = ltb-false (countOf (s .window)) 16 h in
     let long = waiting-count (s .window) room l in
-    let n = stretchOf s room .bytes + skippedOf s room in
+    let n = stretchOf s room .bytes + skipsOf s room .bytes in
     omega (arith, many, taken-count (s .window) n, some-settled (s .settled .last) (waitingIn (s .window) room) (omega (arith, many, long)))
 
 feeds-on : (s : Salvage) (room chunk : List ℕ) → isSettledOf s ≡ true → 16 ≤ length room → 0 < length chunk → 0 < fedOf s room chunk .taken

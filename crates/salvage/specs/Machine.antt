@@ -1,18 +1,23 @@
 -- The machine that is fed a damaged file chunk by chunk (02 c): what each of its calls gives. That together they give what Pieces.antt says of the
 -- whole file, whatever the chunks, is `chunks-do-not-matter`. Assumes nothing.
-use Prim.Native.Nat.{ℕ, _+_, _/_, _%_, _^_}
+use Prim.Native.Nat.{ℕ, zero, suc, _+_, _/_, _%_, _^_}
 use mathlib.Core.Bool.{Bool, true, false, cond}
 use mathlib.Core.List.{List, [], _∷_}
 use lib.Dec.{ltb, eqb}
 use lib.ListN.{length, drop}
-use Rattle.records.specs.Records.{recordBytes, recordAt}
+use Rattle.records.specs.Records.{recordBytes, recordAt, readOf}
+use Rattle.records.specs.declared.forms.Read.{Read}
+use Rattle.records.specs.declared.forms.Read.the-variants as read
 use Rattle.windows.specs.Windows.{emptyWindow, countOf, waitingIn, afterTaking, filledOf, filledRoom}
-use Rattle.salvage.specs.Pieces.{choiceOf, Piece, kept, skipped, piecesFrom, afterFirst, firstOf}
+use Rattle.salvage.specs.Pieces.{inTime, choiceOf, Piece, kept, skipped, piecesFrom, afterFirst, firstOf}
 use Rattle.salvage.specs.declared.choices.Last.{Last}
 use Rattle.salvage.specs.declared.choices.Last.the-variants.{Nothing, At}
 use Rattle.salvage.specs.declared.choices.Choice.{Choice}
 use Rattle.salvage.specs.declared.choices.Choice.the-variants.{Keeps, Skips}
+use Rattle.salvage.specs.declared.choices.Place.{Place}
+use Rattle.salvage.specs.declared.choices.Place.the-variants as place
 use Rattle.salvage.specs.declared.stretches.Stretch.{Stretch}
+use Rattle.salvage.specs.declared.stretches.Skipped.{Skipped}
 use Rattle.salvage.specs.declared.salvages.First.{First}
 use Rattle.salvage.specs.declared.salvages.First.the-variants.{Missing, Kept, Changed}
 use Rattle.salvage.specs.declared.salvages.Run.{Run}
@@ -54,6 +59,27 @@ unfoldable pub skippedFrom : Last → List ℕ → ℕ
 skippedFrom last [] = 0
 skippedFrom last (byte ∷ rest) =
     cond (ltb (length (byte ∷ rest)) recordBytes) 0 (skippedAt (choiceOf last (byte ∷ rest)) (skippedFrom last rest))
+
+-- What stands at a place among them: a record to keep, or one that is refused for its time alone, or none.
+abbrev pub placeBy : Last → Read → Place
+placeBy last (read.Record r) = cond (inTime last (r .time .0)) place.Keeps (place.Skips 1)
+placeBy last (read.Refused n) = place.Skips 0
+
+unfoldable pub placeOf : Last → List ℕ → Place
+placeOf last bytes = placeBy last (readOf bytes)
+
+-- At how many of the first places of some bytes a record stands.
+abbrev pub strayIn : Read → ℕ
+strayIn (read.Record r) = 1
+strayIn (read.Refused n) = 0
+
+abbrev pub straysIn : ℕ → List ℕ → ℕ
+straysIn zero bytes = 0
+straysIn (suc places) bytes = strayIn (readOf bytes) + straysIn places (drop 1 bytes)
+
+-- Those that stand among the skipped bytes are refused for their time alone.
+abbrev pub skipsFrom : Last → List ℕ → Skipped
+skipsFrom last bytes = record { bytes = skippedFrom last bytes; strays = straysIn (skippedFrom last bytes) bytes }
 
 -- ---- what is settled
 
@@ -129,19 +155,20 @@ roomOf s room chunk = filledRoom (s .window) room (behindFirst (s .first) chunk)
 abbrev pub stretchOf : Salvage → List ℕ → Stretch
 stretchOf s room = keptFrom (s .settled .last) (waitingIn (s .window) room)
 
-abbrev pub skippedOf : Salvage → List ℕ → ℕ
-skippedOf s room = skippedFrom (stretchOf s room .last) (drop (stretchOf s room .bytes) (waitingIn (s .window) room))
+abbrev pub skipsOf : Salvage → List ℕ → Skipped
+skipsOf s room = skipsFrom (stretchOf s room .last) (drop (stretchOf s room .bytes) (waitingIn (s .window) room))
 
 unfoldable pub askedOf : Salvage → List ℕ → Progress
 askedOf s room = record {
   salvage = record {
     first = s .first;
-    settled = settledSkipped (settledKept (s .settled) (stretchOf s room)) (skippedOf s room);
-    window = afterTaking (s .window) (stretchOf s room .bytes + skippedOf s room);
+    settled = settledSkipped (settledKept (s .settled) (stretchOf s room)) (skipsOf s room .bytes);
+    window = afterTaking (s .window) (stretchOf s room .bytes + skipsOf s room .bytes);
   };
   run = runEnded (s .settled) (stretchOf s room);
   from = s .window .from;
   kept = stretchOf s room .bytes;
+  strays = skipsOf s room .strays;
 }
 
 -- ---- the end

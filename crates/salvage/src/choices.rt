@@ -1,6 +1,7 @@
 // Whether the bytes at a place are kept (02 c). Meaning: specs/Pieces.antt. Refusals: none.
 ghost use mathlib.Core.Path.{_≡_};
 ghost use Rattle.salvage.specs.Pieces.{inTime, choiceOf};
+ghost use Rattle.salvage.specs.Machine.{placeOf};
 use records::LAST_BUS;
 use records::Read;
 use records::read_record;
@@ -20,6 +21,12 @@ pub enum Last {
 pub(crate) enum Choice {
     Keeps(Moment),
     Skips,
+}
+
+// What stands at a place among skipped bytes: a record to keep, or how many records that are refused for their time alone, one or none.
+pub(crate) enum Place {
+    Keeps,
+    Skips(usize),
 }
 
 impl Last {
@@ -45,5 +52,18 @@ impl Last {
             return Choice::Keeps(time);
         }
         Choice::Skips
+    }
+
+    // Gives what stands where the bytes begin.
+    pub(crate) fn look(self, bytes: &[u8]) -> Place
+        ensures place { λ r. ⌜ r ≡ placeOf self (now (bytes .entry)) ⌝ }
+    {
+        let Read::Record(record) = read_record(bytes) else {
+            return Place::Skips(0);
+        };
+        if self.allows(record.time) {
+            return Place::Keeps;
+        }
+        Place::Skips(1)
     }
 }

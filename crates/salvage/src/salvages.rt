@@ -86,13 +86,15 @@ pub struct Fed {
     pub taken: usize,
 }
 
-// The machine after a question; the run that has ended, of length 0 where none has; and where in the room the bytes to keep stand, and how
-// many: they come behind the run. They stand there until the next feed.
+// The machine after a question; the run that has ended, of length 0 where none has; where in the room the bytes to keep stand, and how
+// many: they come behind the run; and at how many places of the bytes skipped behind those a record stands that is refused for its time
+// alone. They all stand there until the next feed.
 pub struct Progress {
     pub salvage: Salvage,
     pub run: Run,
     pub from: usize,
     pub kept: usize,
+    pub strays: usize,
 }
 
 // What the bytes that were taken came to as a file: its first byte, the run at its end (length 0: none), records kept, bytes skipped, its size.
@@ -257,17 +259,19 @@ impl Salvage {
         let kept = stretch.last;
         let behind = stretch.bytes;
         let skipped = skip_stretch(kept, &waiting[behind..]);
-        let settled = before.keep(stretch).skip(skipped as u64);
+        let after = window.after(behind + skipped.bytes);
+        let settled = before.keep(stretch).skip(skipped.bytes as u64);
         let first = self.first;
         Progress {
             salvage: Salvage {
                 first,
                 settled,
-                window: window.after(behind + skipped),
+                window: after,
             },
             run: before.ended(stretch),
             from: window.from,
             kept: behind,
+            strays: skipped.strays,
         }
     }
 

@@ -1,8 +1,9 @@
 // Stretches of bytes that are kept, and of bytes that are skipped (02 c). Meaning: specs/Machine.antt. Refusals: none.
 ghost use mathlib.Core.Path.{_≡_};
-ghost use Rattle.salvage.specs.Machine.{keptFrom, skippedFrom};
+ghost use Rattle.salvage.specs.Machine.{keptFrom, skipsFrom};
 use crate::choices::Choice;
 use crate::choices::Last;
+use crate::choices::Place;
 use records::RECORD_BYTES;
 
 // How many bytes are kept, and the time of the record that was kept last.
@@ -33,16 +34,24 @@ pub(crate) fn keep_stretch(last: Last, bytes: &[u8]) -> Stretch
     }
 }
 
-// Gives how many bytes at the front are skipped, up to a record that is kept or to where fewer than 16 bytes are left.
-pub(crate) fn skip_stretch(last: Last, bytes: &[u8]) -> usize
-    ensures stretch { λ r. ⌜ r ≡ skippedFrom last (now (bytes .entry)) ⌝ }
+// How many bytes are skipped, and at how many of their places a record stands that is refused for its time alone.
+pub(crate) struct Skipped {
+    pub(crate) bytes: usize,
+    pub(crate) strays: usize,
+}
+
+// Gives what is skipped at the front of the bytes, up to a record that is kept or to where fewer than 16 bytes are left.
+pub(crate) fn skip_stretch(last: Last, bytes: &[u8]) -> Skipped
+    ensures skipped { λ r. ⌜ r ≡ skipsFrom last (now (bytes .entry)) ⌝ }
 {
     let mut at = 0;
+    let mut strays = 0;
     while RECORD_BYTES <= bytes.len() - at {
-        let Choice::Skips = last.choose(&bytes[at..]) else {
-            return at;
+        let Place::Skips(stray) = last.look(&bytes[at..]) else {
+            return Skipped { bytes: at, strays };
         };
+        strays += stray;
         at += 1;
     }
-    at
+    Skipped { bytes: at, strays }
 }

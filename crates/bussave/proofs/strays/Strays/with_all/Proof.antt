@@ -13,11 +13,8 @@ abbrev μ-loop : tie.MeasureT-loop
 loop-holds : tie.Need-loop-holds Inv-loop μ-loop
 loop-holds c = search needs
 
-is-length-requires : tie.Need-is-length-requires Inv-loop μ-loop
-is-length-requires c κs = search needs
-
-behind-requires : tie.Need-behind-requires Inv-loop μ-loop
-behind-requires c κs = search needs
+between-requires : tie.Need-between-requires Inv-loop μ-loop
+between-requires c κs = search needs
 
 wrapping-add-u64-requires : tie.Need-wrapping-add-u64-requires Inv-loop μ-loop
 wrapping-add-u64-requires c κs = search needs
@@ -44,8 +41,7 @@ with-all-spec =
     Inv-loop
     μ-loop
     loop-holds
-    is-length-requires
-    behind-requires
+    between-requires
     wrapping-add-u64-requires
     with-requires
     add-at

@@ -23,17 +23,17 @@ part-skip-stretch-end c = search needs
 skip-stretch-requires : tie.Need-skip-stretch-requires
 skip-stretch-requires c κs = search needs
 
+add-after : tie.Need-add-after
+add-after c = omega (arith, in-room (c .before .before .before .before .before .before .before .before .args .self) (c .before .before .before .before .before .before .before .before .args .room .now) (c .before .before .before .before .before .bytes .result .now) (c .before .before .before .before .before .bytes .ensures) (c .before .before .before .keep-stretch .result) (c .before .before .before .keep-stretch .ensures) (c .before .skip-stretch .result) (c .before .skip-stretch .ensures))
+
+after-requires : tie.Need-after-requires
+after-requires c κs = search needs
+
 keep-requires : tie.Need-keep-requires
 keep-requires c κs = search needs
 
 skip-requires : tie.Need-skip-requires
 skip-requires c κs = search needs
-
-add-after : tie.Need-add-after
-add-after c = omega (arith, in-room (c .before .before .before .before .before .before .before .before .before .args .self) (c .before .before .before .before .before .before .before .before .before .args .room .now) (c .before .before .before .before .before .before .bytes .result .now) (c .before .before .before .before .before .before .bytes .ensures) (c .before .before .before .before .keep-stretch .result) (c .before .before .before .before .keep-stretch .ensures) (c .before .before .skip-stretch .result) (c .before .before .skip-stretch .ensures))
-
-after-requires : tie.Need-after-requires
-after-requires c κs = search needs
 
 ended-requires : tie.Need-ended-requires
 ended-requires c κs = search needs
@@ -51,9 +51,9 @@ ask-spec =
     part-skip-stretch-start
     part-skip-stretch-end
     skip-stretch-requires
-    keep-requires
-    skip-requires
     add-after
     after-requires
+    keep-requires
+    skip-requires
     ended-requires
     returns)
