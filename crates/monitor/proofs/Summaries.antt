@@ -22,7 +22,8 @@ use Rattle.verdict.specs.declared.plans.Plan.{Plan}
 use Rattle.verdict.specs.declared.plans.Expected.{Expected}
 use Rattle.verdict.specs.declared.plans.Expected.the-variants.{Nothing}
 use Rattle.monitor.specs.Entries.{isCommand, isDataWord, isSecond, commandsOf, lastCommand, behindOf, statusesIn, statusesBy, statusesOf, lastIn, ownNumber, isSpoiled, hasTwins, planWith, gapBefore, dataWords, isFar, expects, partOf, ownLast, returnedIn, planOf, outcomeIn, messageOf}
-use Rattle.monitor.specs.Machine.{sum64, next64, headsStatus, gapAfter, heardStatus, heardOwn, heardReturned, heardWord, counted, openedBy, headsSecond, withSecond, heardSecond, joinedBy, awaitsWith, awaitsSecond, expectsFrom, partFor, outcomeOf, closedAt}
+use Rattle.words.specs.Counts.{sum64}
+use Rattle.monitor.specs.Machine.{next64, headsStatus, gapAfter, heardStatus, heardOwn, heardReturned, heardWord, counted, openedBy, headsSecond, withSecond, heardSecond, joinedBy, awaitsWith, awaitsSecond, expectsFrom, partFor, outcomeOf, closedAt}
 use Rattle.monitor.specs.declared.entries.Commands.{Commands}
 use Rattle.monitor.specs.declared.entries.Commands.the-variants as commands
 use Rattle.monitor.specs.declared.entries.Statuses.{Statuses}

@@ -1,11 +1,12 @@
 -- The machine that makes the log (02 a): what an open message comes to, one bus's walk, the side that is fed chunk by chunk, and the choice between two
 -- sides. That together they give what Logs.antt says of the whole file, whatever the chunks, is `log-of-the-file`. Assumes nothing.
-use Prim.Native.Nat.{ℕ, zero, suc, _+_, _-_, _%_, _^_}
+use Prim.Native.Nat.{ℕ, zero, suc, _+_, _-_}
 use mathlib.Core.Bool.{Bool, true, false, not, cond, _&&_, _||_}
 use mathlib.Core.List.{List, [], _∷_}
 use lib.Dec.{eqb, ltb, leb}
 use lib.ListN.{length, drop}
 use Rattle.words.specs.Words.{plusOf, sinceOf, isSpaced, noResponseDistance, addressOf, awaitedOf, isBroadcast}
+use Rattle.words.specs.Counts.{sum64}
 use Rattle.words.specs.Refusals.{notRefused, refusedOutOfOrder}
 use Rattle.words.specs.declared.times.Moment.{Moment}
 use Rattle.words.specs.declared.commands.CommandWord.{CommandWord}
@@ -48,10 +49,7 @@ use Rattle.monitor.specs.declared.sides.Ready.the-variants as ready
 use Rattle.monitor.specs.declared.sides.Choice.{Choice}
 use Rattle.monitor.specs.declared.sides.Choice.the-variants.{FeedFirst, FeedSecond, GiveFirst, GiveSecond, Over}
 
--- A sum as the machine counts, in 64 bits: exact for every file of fewer than 2^64 records.
-abbrev pub sum64 : ℕ → ℕ → ℕ
-sum64 a b = (a + b) % 2 ^ 64
-
+-- One more, as the machine counts.
 abbrev pub next64 : ℕ → ℕ
 next64 n = sum64 n 1
 

@@ -15,8 +15,9 @@ use Rattle.records.specs.declared.forms.Read.the-variants.{Record, Refused}
 use Rattle.windows.specs.Windows.{countOf, filledOf, filledRoom}
 use Rattle.windows.specs.declared.windows.Filled.{Filled}
 use Rattle.windows.proofs.Waiting.{filled-few}
+use Rattle.words.specs.Counts.{sum64}
 use Rattle.salvage.specs.Pieces.{inTime, chosen, choiceOf, afterFirst, firstOf, firstIn}
-use Rattle.salvage.specs.Machine.{sum64, placeBy, placeOf, settledKept, settledSkipped, runEnded, gatheredOf, oneMore, begunOf, fedBy, fedOf, behindFirst, roomOf, isSettledOf, sizeOf, totalsOf, endedOf}
+use Rattle.salvage.specs.Machine.{placeBy, placeOf, settledKept, settledSkipped, runEnded, gatheredOf, oneMore, begunOf, fedBy, fedOf, behindFirst, roomOf, isSettledOf, sizeOf, totalsOf, endedOf}
 use Rattle.salvage.specs.declared.choices.Last.{Last}
 use Rattle.salvage.specs.declared.choices.Choice.the-variants.{Keeps, Skips}
 use Rattle.salvage.specs.declared.choices.Place.the-variants as place

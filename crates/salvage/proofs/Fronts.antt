@@ -46,6 +46,16 @@ pub choice-front : (last : Last) (s after : List ℕ) → 16 ≤ length s → ch
 unfolding choiceOf
 choice-front last s after l = ap (chosen last) (read-front lastBus s after l)
 
+-- so those alone decide
+pub choice-sixteen : (last : Last) (s : List ℕ) → 16 ≤ length s → choiceOf last (take 16 s) ≡ choiceOf last s
+choice-sixteen last s l =
+    sym (choice-front last (take 16 s) (drop 16 s) (omega (arith, length-take-le 16 s l))) ∙ ap (choiceOf last) (take-append-drop 16 s)
+
+pub place-sixteen : (last : Last) (s : List ℕ) → 16 ≤ length s → placeOf last (take 16 s) ≡ placeOf last s
+unfolding placeOf
+place-sixteen last s l =
+    sym (ap (placeBy last) (read-front (take 16 s) (drop 16 s) (omega (arith, length-take-le 16 s l)))) ∙ ap (λ (k : List ℕ). placeBy last (readOf k)) (take-append-drop 16 s)
+
 -- what a choice to keep shows
 pub found : (last : Last) (s : List ℕ) (t : Moment) → choiceOf last s ≡ Keeps t → InTime last s t
 unfolding choiceOf

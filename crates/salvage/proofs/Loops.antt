@@ -5,7 +5,7 @@ use native.Mathlib.Nat.{zero-add, add-zero}
 use native.Mathlib.Omega.{arith}
 use mathlib.Core.List.{List, _∷_}
 use lib.ListN.{length, getD, take, drop, length-drop}
-use lib.Seq.{take-all, drop-drop, drop-cons}
+use lib.Seq.{drop-drop, drop-cons}
 use Rattle.words.specs.declared.times.Moment.{Moment}
 use Rattle.salvage.specs.Pieces.{choiceOf}
 use Rattle.salvage.specs.Machine.{longer, keptFrom, skippedFrom, placeOf, straysIn, skipsFrom}
@@ -16,11 +16,16 @@ use Rattle.salvage.specs.declared.choices.Choice.the-variants.{Keeps, Sk
 use Rattle.salvage.specs.declared.choices.Place.{Place}
 use Rattle.salvage.specs.declared.choices.Place.the-variants as place
 use Rattle.salvage.specs.declared.stretches.Stretch.{Stretch}
-use Rattle.salvage.proofs.Fronts.{choice-short, kept-keep, kept-skip, skipped-short, skipped-one, place-skips, place-keeps, strays-next, strays-few}
+use Rattle.salvage.proofs.Fronts.{choice-short, choice-sixteen, place-sixteen, kept-keep, kept-skip, skipped-short, skipped-one, place-skips, place-keeps, strays-next, strays-few}
 
--- what the code chooses of the rest of the bytes
-rest-choice : (last : Last) (s : List ℕ) (at : ℕ) (g x : Choice) → at ≤ length s → g ≡ choiceOf last (take (length s - at) (drop at s)) → g ≡ x → choiceOf last (drop at s) ≡ x
-rest-choice last s at g x l e q = sym (ap (choiceOf last) (take-all (length s - at) (drop at s) (omega (arith, length-drop at s)))) ∙ sym e ∙ q
+-- the 16 bytes that the code looks at
+sixteen : (s : List ℕ) (at : ℕ) → take (at + 16 - at) (drop at s) ≡ take 16 (drop at s)
+sixteen s at = ap (λ (k : ℕ). take k (drop at s)) {x = at + 16 - at} {y = 16} (omega arith)
+
+-- what it chooses of the rest of the bytes
+rest-choice : (last : Last) (s : List ℕ) (at : ℕ) (g x : Choice) → 16 ≤ length s - at → g ≡ choiceOf last (take (at + 16 - at) (drop at s)) → g ≡ x → choiceOf last (drop at s) ≡ x
+rest-choice last s at g x l e q =
+    sym (choice-sixteen last (drop at s) (omega (arith, length-drop at s))) ∙ sym (ap (choiceOf last) (sixteen s at)) ∙ sym e ∙ q
 
 -- ---- records that are kept
 
@@ -45,13 +50,13 @@ module _ (s : List ℕ) (first last : Last) (at : ℕ) (keeping : Keeping s firs
   pub keeping-short : length s - at < 16 → record { bytes = at; last = last } ≡ keptFrom first s
   keeping-short l = stop (kept-skip last (drop at s) (choice-short last (drop at s) (omega (arith, length-drop at s))))
 
-  module _ (g : Choice) (l : 16 ≤ length s - at) (e : g ≡ choiceOf last (take (length s - at) (drop at s))) where
+  module _ (g : Choice) (l : 16 ≤ length s - at) (e : g ≡ choiceOf last (take (at + 16 - at) (drop at s))) where
     pub keeping-stop : g ≡ Skips → record { bytes = at; last = last } ≡ keptFrom first s
-    keeping-stop q = stop (kept-skip last (drop at s) (rest-choice last s at g Skips (keeping .inside) e q))
+    keeping-stop q = stop (kept-skip last (drop at s) (rest-choice last s at g Skips l e q))
 
     pub keeping-next : (t : Moment) → g ≡ Keeps t → Keeping s first (At t) (at + 16)
     keeping-next t q =
-        let choice = rest-choice last s at g (Keeps t) (keeping .inside) e q in
+        let choice = rest-choice last s at g (Keeps t) l e q in
         record {
           inside = omega (arith, keeping .inside);
           same =
@@ -81,10 +86,11 @@ module _ (s : List ℕ) (last : Last) (at strays : ℕ) (skipping : Skipping s l
   pub skipping-short : length s - at < 16 → record { bytes = at; strays = strays } ≡ skipsFrom last s
   skipping-short l = ends (skipped-short last (drop at s) (omega (arith, length-drop at s)))
 
-  module _ (g : Place) (l : 16 ≤ length s - at) (e : g ≡ placeOf last (take (length s - at) (drop at s))) where
+  module _ (g : Place) (l : 16 ≤ length s - at) (e : g ≡ placeOf last (take (at + 16 - at) (drop at s))) where
     -- what the code sees of the rest of the bytes
     rest-place : (x : Place) → g ≡ x → placeOf last (drop at s) ≡ x
-    rest-place x q = sym (ap (placeOf last) (take-all (length s - at) (drop at s) (omega (arith, length-drop at s)))) ∙ sym e ∙ q
+    rest-place x q =
+        sym (place-sixteen last (drop at s) (omega (arith, length-drop at s))) ∙ sym (ap (placeOf last) (sixteen s at)) ∙ sym e ∙ q
 
     pub skipping-stop : g ≡ place.Keeps → record { bytes = at; strays = strays } ≡ skipsFrom last s
     skipping-stop q = ends (place-keeps last (drop at s) (rest-place place.Keeps q))

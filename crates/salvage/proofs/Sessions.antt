@@ -13,8 +13,9 @@ use lib.Seq.{length-take-le, take-nil, take-append-add, take-append-seam, drop-d
 use borrow.Author.Tests.{ltb-true, ltb-false}
 use Rattle.windows.specs.Windows.{countOf, waitingIn, afterTaking, filledOf, filledRoom}
 use Rattle.windows.proofs.Waiting.{waiting-count, taken-waits, taken-count, taken-inside, filled-waits, filled-few, filled-some}
+use Rattle.words.specs.Counts.{sum64}
 use Rattle.salvage.specs.Pieces.{piecesFrom, piecesOf, afterFirst, firstOf, firstIn, versionOf, cleanOf, listed, runsOf, changedOf, recordsIn, skippedIn}
-use Rattle.salvage.specs.Machine.{sum64, keptFrom, skippedFrom, settledKept, settledSkipped, runEnded, gatheredOf, begunOf, fedBy, fedOf, behindFirst, roomOf, stretchOf, skipsOf, askedOf, isSettledOf, isChanged, sizeOf, totalsOf, endedOf}
+use Rattle.salvage.specs.Machine.{keptFrom, skippedFrom, settledKept, settledSkipped, runEnded, gatheredOf, begunOf, fedBy, fedOf, behindFirst, roomOf, stretchOf, skipsOf, askedOf, isSettledOf, isChanged, sizeOf, totalsOf, endedOf}
 use Rattle.salvage.specs.Theorems.{Call, feeds, asks, Session, begun, afterCall, after, Exact, ChunksDoNotMatter, FirstStays, GoesOn, GetsThere}
 use Rattle.salvage.specs.declared.choices.Last.{Last}
 use Rattle.salvage.specs.declared.choices.Last.the-variants.{Nothing}

@@ -1,10 +1,11 @@
 -- The machine that is fed a damaged file chunk by chunk (02 c): what each of its calls gives. That together they give what Pieces.antt says of the
 -- whole file, whatever the chunks, is `chunks-do-not-matter`. Assumes nothing.
-use Prim.Native.Nat.{ℕ, zero, suc, _+_, _/_, _%_, _^_}
+use Prim.Native.Nat.{ℕ, zero, suc, _+_, _/_}
 use mathlib.Core.Bool.{Bool, true, false, cond}
 use mathlib.Core.List.{List, [], _∷_}
 use lib.Dec.{ltb, eqb}
 use lib.ListN.{length, drop}
+use Rattle.words.specs.Counts.{sum64}
 use Rattle.records.specs.Records.{recordBytes, recordAt, readOf}
 use Rattle.records.specs.declared.forms.Read.{Read}
 use Rattle.records.specs.declared.forms.Read.the-variants as read
@@ -28,10 +29,6 @@ use Rattle.salvage.specs.declared.salvages.Progress.{Progress}
 use Rattle.salvage.specs.declared.salvages.Totals.{Totals}
 use Rattle.salvage.specs.declared.salvages.Ended.{Ended}
 use Rattle.salvage.specs.declared.salvages.Ended.the-variants.{Whole, Early}
-
--- A sum as the machine counts, in 64 bits: exact for every file of fewer than 2^64 bytes.
-abbrev pub sum64 : ℕ → ℕ → ℕ
-sum64 a b = (a + b) % 2 ^ 64
 
 -- ---- stretches at the front of some bytes
 

@@ -19,14 +19,15 @@ pub(crate) fn keep_stretch(last: Last, bytes: &[u8]) -> Stretch
     let mut kept = last;
     let mut at = 0;
     while RECORD_BYTES <= bytes.len() - at {
-        let Choice::Keeps(time) = kept.choose(&bytes[at..]) else {
+        let end = at + RECORD_BYTES;
+        let Choice::Keeps(time) = kept.choose(&bytes[at..end]) else {
             return Stretch {
                 bytes: at,
                 last: kept,
             };
         };
         kept = Last::At(time);
-        at += RECORD_BYTES;
+        at = end;
     }
     Stretch {
         bytes: at,
@@ -47,7 +48,8 @@ pub(crate) fn skip_stretch(last: Last, bytes: &[u8]) -> Skipped
     let mut at = 0;
     let mut strays = 0;
     while RECORD_BYTES <= bytes.len() - at {
-        let Place::Skips(stray) = last.look(&bytes[at..]) else {
+        let end = at + RECORD_BYTES;
+        let Place::Skips(stray) = last.look(&bytes[at..end]) else {
             return Skipped { bytes: at, strays };
         };
         strays += stray;

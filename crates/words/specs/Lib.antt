@@ -3,5 +3,6 @@ pub mod Words
 pub mod Modes
 pub mod Masks
 pub mod Refusals
+pub mod Counts
 pub mod Cards
 pub mod Theorems

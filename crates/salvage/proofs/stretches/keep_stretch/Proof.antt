@@ -18,6 +18,9 @@ loop-holds c = keeping-start _ _
 sub-loop : tie.Need-sub-loop Inv-loop μ-loop
 sub-loop c = search needs
 
+add-end : tie.Need-add-end Inv-loop μ-loop
+add-end c = search needs
+
 sub-choose : tie.Need-sub-choose Inv-loop μ-loop
 sub-choose c = search needs
 
@@ -39,9 +42,6 @@ enum-told c = search needs
 returns : tie.Need-returns Inv-loop μ-loop
 returns c = search (keeping-stop, needs)
 
-add-at : tie.Need-add-at Inv-loop μ-loop
-add-at c = search needs
-
 loop-less : tie.Need-loop-less Inv-loop μ-loop
 loop-less c = search needs
 
@@ -59,6 +59,7 @@ keep-stretch-spec =
     μ-loop
     loop-holds
     sub-loop
+    add-end
     sub-choose
     part-choose-start
     part-choose-end
@@ -66,7 +67,6 @@ keep-stretch-spec =
     enum-known-time
     enum-told
     returns
-    add-at
     loop-less
     loop-again
     returns-2)

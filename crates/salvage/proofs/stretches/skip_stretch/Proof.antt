@@ -19,6 +19,9 @@ loop-holds c = skipping-start _ _
 sub-loop : tie.Need-sub-loop Inv-loop μ-loop
 sub-loop c = search needs
 
+add-end : tie.Need-add-end Inv-loop μ-loop
+add-end c = search needs
+
 sub-look : tie.Need-sub-look Inv-loop μ-loop
 sub-look c = search needs
 
@@ -63,6 +66,7 @@ skip-stretch-spec =
     μ-loop
     loop-holds
     sub-loop
+    add-end
     sub-look
     part-look-start
     part-look-end
