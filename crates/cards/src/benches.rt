@@ -1,20 +1,19 @@
-// The bench: what one line leaves to the next, but for the tables and the bytes of the buffer, which are lent beside it.
+// The bench: what one line leaves to the next, but for the terminal, the tables and the bytes of the buffer, which stand beside it.
 use crate::reasons::Reason;
 use crate::replies::Reply;
 use crate::verdicts::plan_of;
-use terminal::Answer;
-use terminal::Setup;
-use terminal::Terminal;
 use verdict::Plan;
-use words::Moment;
 use words::Refusal;
-use words::StatusWord;
 
 // "receive and transmit table of 1,024 zeros"
 pub(crate) const TABLE_WORDS: usize = 1024;
 
+// A table with what a line can lend past its end, and the byte buffer.
+pub(crate) type Table = [u16; 2048];
+
+pub(crate) type Buffer = [u8; 65536];
+
 pub(crate) struct Bench {
-    pub(crate) terminal: Terminal,
     // masks for later set-ups, with what a line can lend past those of the subaddresses
     pub(crate) receive_masks: [u32; 64],
     pub(crate) transmit_masks: [u32; 64],
@@ -27,34 +26,17 @@ pub(crate) struct Bench {
     pub(crate) planned: bool,
 }
 
-// What a call gives: the bench after it, what is to be written, and of an event the answer that it carries and whether a sending was cut.
+// What a call gives that leaves the terminal as it is: the bench after it, and what is to be written.
 pub(crate) struct Done {
     pub(crate) bench: Bench,
     pub(crate) reply: Reply,
-    pub(crate) answer: Answer,
-    pub(crate) cut: bool,
-}
-
-// What a call carries that is no event.
-fn no_answer() -> Answer {
-    Answer {
-        given: false,
-        bus: 0,
-        due: Moment(0),
-        status: StatusWord(0),
-        count: 0,
-        words: [0; 32],
-    }
 }
 
 impl Bench {
-    // "At the start: a terminal of address 5 with every mask FFFFFFFF, fresh; .. both tables lent whole; an empty byte buffer; no plan."
+    // "At the start: .. every mask FFFFFFFF ..; both tables lent whole; an empty byte buffer; no plan."
     pub(crate) fn start() -> Bench {
-        let setup = Setup::build(5, [0xFFFF_FFFF; 32], [0xFFFF_FFFF; 32]);
-        let terminal = Terminal::fresh(setup);
         let plan = plan_of([0; 7]);
         Bench {
-            terminal,
             receive_masks: [0xFFFF_FFFF; 64],
             transmit_masks: [0xFFFF_FFFF; 64],
             receive: TABLE_WORDS,
@@ -67,13 +49,7 @@ impl Bench {
 
     // The bench as it is, and what is to be written.
     pub(crate) fn replied(self, reply: Reply) -> Done {
-        let answer = no_answer();
-        Done {
-            bench: self,
-            reply,
-            answer,
-            cut: false,
-        }
+        Done { bench: self, reply }
     }
 
     pub(crate) fn ok(self) -> Done {
@@ -88,12 +64,5 @@ impl Bench {
     // A refusal leaves all as it was.
     pub(crate) fn refused(self, refusal: Refusal) -> Done {
         self.replied(Reply::Refused(refusal))
-    }
-
-    // The same bench with another terminal.
-    pub(crate) fn with(self, terminal: Terminal) -> Bench {
-        let mut next = self;
-        next.terminal = terminal;
-        next
     }
 }

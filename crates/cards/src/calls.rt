@@ -36,6 +36,18 @@ pub(crate) enum Name {
     None,
 }
 
+impl Name {
+    // Says whether a call is one at the terminal, which leaves all else as it is.
+    pub(crate) fn is_at_terminal(self) -> bool {
+        match self {
+            Name::Word | Name::Mark | Name::Setup | Name::SetupLending => true,
+            Name::Service | Name::Busy | Name::Subsystem | Name::Fault => true,
+            Name::Vector | Name::Bit | Name::Selftest | Name::Restart => true,
+            _ => false,
+        }
+    }
+}
+
 // A call: its name, and its numbers in the order of the line.
 pub(crate) struct Call {
     pub(crate) name: Name,

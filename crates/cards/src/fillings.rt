@@ -17,14 +17,13 @@ struct Filling {
 }
 
 impl Filling {
-    fn bad(self) -> Filling {
-        let mut next = self;
-        next.good = false;
-        next
+    fn bad(mut self) -> Filling {
+        self.good = false;
+        self
     }
 
     // Takes a character: a digit, or a space between whole bytes.
-    fn take(self, byte: u8, buffer: &mut [u8]) -> Filling {
+    fn take(mut self, byte: u8, buffer: &mut [u8]) -> Filling {
         let low = read_digit(byte);
         let high = self.high;
         if low == NO_DIGIT {
@@ -33,17 +32,16 @@ impl Filling {
             }
             return self.bad();
         }
-        let mut next = self;
         if high == NO_DIGIT {
-            next.high = low;
-            return next;
+            self.high = low;
+            return self;
         }
         let place = self.place;
         if place < buffer.len() {
             buffer[place] = (high << 4) | low;
-            next.place = place + 1;
-            next.high = NO_DIGIT;
-            return next;
+            self.place = place + 1;
+            self.high = NO_DIGIT;
+            return self;
         }
         self.bad()
     }

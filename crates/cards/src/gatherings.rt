@@ -38,14 +38,13 @@ impl Gathering {
     }
 
     // Keeps a byte at the end, where there is room: a line that fills it is longer than any call.
-    fn kept(self, line: &mut [u8], byte: u8) -> Gathering {
-        let mut next = self;
-        let length = next.length;
+    fn kept(mut self, line: &mut [u8], byte: u8) -> Gathering {
+        let length = self.length;
         if length < line.len() {
             line[length] = byte;
-            next.length = length + 1;
+            self.length = length + 1;
         }
-        next
+        self
     }
 
     // Keeps the space that stands before the next byte, but not in front.
@@ -60,17 +59,16 @@ impl Gathering {
     }
 
     // Takes one byte of the line.
-    pub(crate) fn take(self, line: &mut [u8], byte: u8) -> Gathering {
-        let mut next = self;
-        if !next.begun {
-            next.begun = true;
-            next.remark = byte == b'#';
+    pub(crate) fn take(mut self, line: &mut [u8], byte: u8) -> Gathering {
+        if !self.begun {
+            self.begun = true;
+            self.remark = byte == b'#';
         }
         if byte == b' ' {
-            next.spaced = true;
-            return next;
+            self.spaced = true;
+            return self;
         }
-        let mut kept = next.after_space(line).kept(line, byte);
+        let mut kept = self.after_space(line).kept(line, byte);
         kept.spaced = false;
         kept
     }

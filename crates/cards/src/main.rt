@@ -14,70 +14,48 @@ mod reasons;
 mod replies;
 mod scripts;
 mod setups;
+mod terminals;
 mod usages;
 mod verdicts;
 
+use benches::Buffer;
+use benches::Table;
 use complaints::PROGRAM;
 use complaints::show_usage;
-use gatherings::Gathering;
 use libc::STDIN_FILENO;
 use lines::Block;
 use lines::complain;
-use scripts::Buffer;
 use scripts::Line;
-use scripts::Progress;
 use scripts::Run;
-use scripts::Table;
 use scripts::run_block;
-use scripts::write_waiting;
 use status::Begun;
 use status::Status;
 use status::asks_help;
 
-// What a read leaves: whether there may be more, whether it failed or a write did, and the progress.
-struct Turn {
-    more: bool,
-    failed: bool,
-    progress: Progress,
+// Says on standard error that a read failed, where it did.
+fn tell_unread(failed: bool) {
+    if failed {
+        complain(&PROGRAM, b"standard input");
+    }
 }
 
 // Reads one block and runs its lines. Keeping the loop out of it keeps what the buffer holds out of the loop's invariant.
 fn read_block(
-    progress: Progress,
+    run: Run,
     line: &mut Line,
     receive: &mut Table,
     transmit: &mut Table,
     buffer: &mut Buffer,
     out: &mut Block,
-) -> Turn {
+) -> Run {
     let mut block = io::large_buffer();
     let got = libc::read(STDIN_FILENO, &mut block);
-    if got < 0 {
-        complain(&PROGRAM, b"standard input");
-    }
     if got <= 0 {
-        return Turn {
-            more: false,
-            failed: got < 0,
-            progress,
-        };
+        tell_unread(got < 0);
+        return run.read(got < 0);
     }
     let count = io::count(got, &block);
-    let after = run_block(
-        progress,
-        &block[..count],
-        line,
-        receive,
-        transmit,
-        buffer,
-        out,
-    );
-    let failed = after.run.sink.failed;
-    Turn {
-        more: !failed,
-        failed,
-        progress: after,
-    }
+    run_block(run, &block[..count], line, receive, transmit, buffer, out)
 }
 
 // Reads to the end. A proved loop has to end, and nothing says that the input does: it counts down from a number that no run uses up.
@@ -87,43 +65,31 @@ fn read_all(
     transmit: &mut Table,
     buffer: &mut Buffer,
     out: &mut Block,
-) -> Turn {
-    let mut turn = Turn {
-        more: true,
-        failed: false,
-        progress: Progress {
-            run: Run::start(),
-            gathering: Gathering::start(1),
-        },
-    };
+) -> Run {
+    let mut run = Run::start();
     let mut turns = u64::MAX;
-    while turns > 0 && turn.more {
-        turn = read_block(turn.progress, line, receive, transmit, buffer, out);
+    while turns > 0 && run.more {
+        run = read_block(run, line, receive, transmit, buffer, out);
         turns -= 1;
     }
-    turn
+    run
 }
 
 // Runs the last line, which may have no end, and writes what waits. A line that a failure cut is none.
 fn finish(
-    turn: Turn,
+    run: Run,
     line: &Line,
     receive: &mut Table,
     transmit: &mut Table,
     buffer: &mut Buffer,
     out: &mut Block,
 ) -> Status {
-    if turn.failed {
+    if run.failed {
         return Status::Failed;
     }
-    let progress = turn.progress;
-    let gathering = progress.gathering;
-    let last = progress
-        .run
-        .run_line(gathering, line, receive, transmit, buffer, out);
-    let sink = last.sink;
-    let after = write_waiting(sink, out);
-    Status::of(!last.missed & !after.failed)
+    let last = run.run_line(run.gathering, line, receive, transmit, buffer, out);
+    let after = last.written(out);
+    Status::of(!after.missed & !after.failed)
 }
 
 // Plays the script. "At the start: .. receive and transmit table of 1,024 zeros". What a line can lend past these is only a length.
@@ -133,7 +99,7 @@ fn play() -> Status {
     let mut transmit = [0u16; 2048];
     let mut buffer = io::large_buffer();
     let mut out = io::large_buffer();
-    let turn = read_all(
+    let run = read_all(
         &mut line,
         &mut receive,
         &mut transmit,
@@ -141,7 +107,7 @@ fn play() -> Status {
         &mut out,
     );
     finish(
-        turn,
+        run,
         &line,
         &mut receive,
         &mut transmit,

@@ -1,5 +1,6 @@
 // The parts of a line: "Words on a line are separated by spaces", here by one each, since a line is gathered so.
 use crate::numbers::REST;
+use lines::between;
 
 // Gives where the part begins that follows one that ends at a place; where none does, it is past the line.
 pub(crate) fn next_start(line: &[u8], end: usize) -> usize {
@@ -24,4 +25,21 @@ pub(crate) fn last(line: &[u8], count: usize) -> &[u8] {
         return &line[line.len() - count..];
     }
     &line[..0]
+}
+
+// Gives how many bytes of a text there are before the spaces at its end.
+fn filled(text: &[u8]) -> usize {
+    let mut end = text.len();
+    while end > 0 {
+        if text[end - 1] != b' ' {
+            return end;
+        }
+        end -= 1;
+    }
+    0
+}
+
+// Gives a text without the spaces at its end.
+pub(crate) fn trimmed(text: &[u8]) -> &[u8] {
+    between(text, 0, filled(text))
 }

@@ -1,11 +1,12 @@
 // What a call has written: its line.
-use crate::benches::Done;
 use crate::outputs::put_line;
 use crate::outputs::put_one;
+use crate::parts::trimmed;
 use crate::reasons::Reason;
 use lines::Block;
 use lines::Sink;
 use terminal::Answer;
+use terminal::Happened;
 use terminal::NextMoment;
 use terminal::SpacingFault;
 use terminal::Terminal;
@@ -16,8 +17,6 @@ use words::Refusal;
 pub(crate) enum Reply {
     Ok,
     Refused(Refusal),
-    // an event that is not refused
-    Happened,
     // a place of the receive table, and how many words from there
     Words(usize, usize),
     State,
@@ -108,14 +107,26 @@ fn put_answer(sink: Sink, out: &mut Block, answer: Answer) -> Sink {
     put_sent(after, out, words, answer.count)
 }
 
-// Puts the line of an event that is not refused: "`ok`, then ..".
-fn put_happened(sink: Sink, out: &mut Block, answer: Answer, cut: bool) -> Sink {
+// Puts the line of a call at the terminal, which is done: "`ok`, then ..".
+fn put_ok(sink: Sink, out: &mut Block, answer: Answer, cut: bool) -> Sink {
     let ok = sink.put_text(out, b"ok");
     let after = put_answer(ok, out, answer);
     if cut {
         return after.put_text(out, b" cut");
     }
     after
+}
+
+// Puts the line of a call at the terminal.
+pub(crate) fn put_happened(sink: Sink, out: &mut Block, happened: Happened) -> Sink {
+    let answer = happened.answer;
+    let refusal = happened.refusal;
+    let after = if refusal.0 == 0 {
+        put_ok(sink, out, answer, happened.cut)
+    } else {
+        put_short(sink, out, Reply::Refused(refusal))
+    };
+    after.put(out, b'\n')
 }
 
 // Gives so many words of a table from a place on, none where it has not so many.
@@ -142,27 +153,62 @@ fn put_words(sink: Sink, out: &mut Block, words: &[u16]) -> Sink {
     after
 }
 
-// Puts what a call gave, with the receive table as it is after it.
-fn put_done(sink: Sink, out: &mut Block, done: Done, receive: &[u16]) -> Sink {
-    let answer = done.answer;
-    let terminal = done.bench.terminal;
-    let reply = done.reply;
+// A line with one number at most, which spaces fill up, and that number.
+struct Short {
+    line: [u8; 9],
+    value: u64,
+}
+
+// Gives the line of a reply that has one number at most.
+fn short_of(reply: Reply) -> Short {
     match reply {
-        Reply::Ok => sink.put_text(out, b"ok"),
-        Reply::Refused(refusal) => put_one(sink, out, b"refused N", refusal.0 as u64),
-        Reply::Happened => put_happened(sink, out, answer, done.cut),
-        Reply::Words(start, count) => put_words(sink, out, words_at(receive, start, count)),
-        Reply::State => put_state(sink, out, terminal),
-        Reply::Spacing => put_spacing(sink, out, terminal.last_spacing_fault()),
-        Reply::Verdict(verdict) => put_one(sink, out, b"verdict N", verdict.0 as u64),
-        Reply::Looked(count) => put_one(sink, out, b"looked N", count as u64),
-        Reply::Records(count) => put_one(sink, out, b"records N", count),
-        Reply::Help => sink.put_text(out, b"ok"),
-        Reply::NoCall(_) => sink.put_text(out, b"?"),
+        Reply::Refused(refusal) => Short {
+            line: *b"refused N",
+            value: refusal.0 as u64,
+        },
+        Reply::Verdict(verdict) => Short {
+            line: *b"verdict N",
+            value: verdict.0 as u64,
+        },
+        Reply::Looked(count) => Short {
+            line: *b"looked N ",
+            value: count as u64,
+        },
+        Reply::Records(count) => Short {
+            line: *b"records N",
+            value: count,
+        },
+        Reply::NoCall(_) => Short {
+            line: *b"?        ",
+            value: 0,
+        },
+        _ => Short {
+            line: *b"ok       ",
+            value: 0,
+        },
     }
 }
 
-// Puts the whole line.
-pub(crate) fn put_reply(sink: Sink, out: &mut Block, done: Done, receive: &[u16]) -> Sink {
-    put_done(sink, out, done, receive).put(out, b'\n')
+// Puts such a line.
+fn put_short(sink: Sink, out: &mut Block, reply: Reply) -> Sink {
+    let short = short_of(reply);
+    let line = short.line;
+    put_one(sink, out, trimmed(&line), short.value)
+}
+
+// Puts the line of a call that left the terminal as it is, with the receive table.
+pub(crate) fn put_reply(
+    sink: Sink,
+    out: &mut Block,
+    reply: Reply,
+    terminal: Terminal,
+    receive: &[u16],
+) -> Sink {
+    let after = match reply {
+        Reply::Words(start, count) => put_words(sink, out, words_at(receive, start, count)),
+        Reply::State => put_state(sink, out, terminal),
+        Reply::Spacing => put_spacing(sink, out, terminal.last_spacing_fault()),
+        _ => put_short(sink, out, reply),
+    };
+    after.put(out, b'\n')
 }

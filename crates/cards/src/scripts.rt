@@ -1,6 +1,8 @@
 // A script: its calls made, and its blocks told into lines.
 use crate::benches::Bench;
+use crate::benches::Buffer;
 use crate::benches::Done;
+use crate::benches::Table;
 use crate::calls::Call;
 use crate::calls::Name;
 use crate::calls::call_of;
@@ -13,8 +15,10 @@ use crate::parts::last;
 use crate::reasons::Reason;
 use crate::reasons::say;
 use crate::replies::Reply;
+use crate::replies::put_happened;
 use crate::replies::put_reply;
-use crate::setups::MASKS;
+use crate::terminals::act;
+use crate::terminals::first_terminal;
 use crate::usages::write_calls;
 use crate::verdicts::plan_of;
 use libc::STDOUT_FILENO;
@@ -22,60 +26,31 @@ use lines::Block;
 use lines::Sink;
 use lines::between;
 use lines::complain;
-use terminal::Event;
-use words::Moment;
+use terminal::Terminal;
 
-// The longest line that is kept, a table with what a line can lend past its end, and the byte buffer.
+// The longest line that is kept.
 pub(crate) type Line = [u8; 262144];
 
-pub(crate) type Table = [u16; 2048];
-
-pub(crate) type Buffer = [u8; 65536];
-
-// What a line leaves to the next: the bench, where its output goes, and whether a line was no call.
+// What a block leaves to the next: the terminal, the bench, where the output goes, and the line that the block may cut; then whether a
+// line was no call, whether there may be more to read, and whether a read or a write failed. It is one struct and not one in another: each
+// that holds the terminal costs in every step of a proof.
 pub(crate) struct Run {
+    pub(crate) terminal: Terminal,
     pub(crate) bench: Bench,
     pub(crate) sink: Sink,
-    pub(crate) missed: bool,
-}
-
-// What a block leaves to the next, which may cut a line.
-pub(crate) struct Progress {
-    pub(crate) run: Run,
     pub(crate) gathering: Gathering,
+    pub(crate) missed: bool,
+    pub(crate) more: bool,
+    pub(crate) failed: bool,
 }
 
 impl Bench {
-    // Makes a call of the host, which changes only the terminal. Any other is none.
-    fn host(self, name: Name, number: u64) -> Done {
-        let terminal = self.terminal;
-        let on = number == 1;
-        let next = match name {
-            Name::Service => terminal.set_service(on),
-            Name::Busy => terminal.set_busy(on),
-            Name::Subsystem => terminal.set_subsystem(on),
-            Name::Fault => terminal.set_terminal_fault(on),
-            Name::Vector => terminal.set_vector_word(word(number)),
-            Name::Bit => terminal.set_bit_word(word(number)),
-            Name::Selftest => terminal.clear_selftest(),
-            Name::Restart => terminal.restart(),
-            _ => {
-                return self.no_call(Reason::Form);
-            }
-        };
-        self.with(next).ok()
-    }
-
-    // Makes a call that needs neither table nor buffer.
+    // Makes a call that needs neither table nor buffer. Any other is none.
     fn perform_bare(self, call: Call) -> Done {
         let numbers = call.numbers;
         let name = call.name;
         match name {
             Name::Mask => self.set_mask(numbers[0], numbers[1] as usize, mask(numbers[2])),
-            Name::Setup => self.set_up(word(numbers[0]), MASKS, MASKS),
-            Name::SetupLending => {
-                self.set_up(word(numbers[0]), numbers[1] as usize, numbers[2] as usize)
-            }
             Name::Tables => self.lend_later(numbers[0] as usize, numbers[1] as usize),
             Name::ReceivedWord => self.received(numbers[0] as usize, 1),
             Name::ReceivedWords => self.received(numbers[0] as usize, numbers[1] as usize),
@@ -83,24 +58,15 @@ impl Bench {
             Name::Spacing => self.replied(Reply::Spacing),
             Name::Plan => self.planned(plan_of(numbers)),
             Name::Help => self.replied(Reply::Help),
-            _ => self.host(name, numbers[0]),
+            _ => self.no_call(Reason::Form),
         }
     }
 
-    // Makes a call.
-    fn perform(
-        self,
-        call: Call,
-        line: &[u8],
-        receive: &mut [u16],
-        transmit: &mut [u16],
-        buffer: &mut [u8],
-    ) -> Done {
+    // Makes a call that leaves the terminal as it is.
+    fn perform(self, call: Call, line: &[u8], transmit: &mut Table, buffer: &mut Buffer) -> Done {
         let numbers = call.numbers;
         let name = call.name;
         match name {
-            Name::Word => self.lend(Event::Word(record_of(numbers)), receive, transmit),
-            Name::Mark => self.lend(Event::Mark(Moment(numbers[0])), receive, transmit),
             Name::Send => self.send(numbers[0] as usize, word(numbers[1]), transmit),
             Name::Back => self.back(record_of(numbers), buffer),
             Name::Bytes => self.bytes(last(line, numbers[0] as usize), buffer),
@@ -128,38 +94,59 @@ fn tell(reply: Reply, number: u64, line: &[u8]) -> bool {
 
 impl Run {
     pub(crate) fn start() -> Run {
+        let terminal = first_terminal();
         let bench = Bench::start();
         Run {
+            terminal,
             bench,
             sink: Sink::to(STDOUT_FILENO),
+            gathering: Gathering::start(1),
             missed: false,
+            more: true,
+            failed: false,
         }
     }
 
-    // Makes the call that the line of a number is, and writes its line.
-    fn run(
-        self,
+    // The same run after the last read.
+    pub(crate) fn read(mut self, failed: bool) -> Run {
+        self.more = false;
+        self.failed = failed;
+        self
+    }
+
+    // Makes a call at the terminal, and writes its line. A refusal leaves all as it was.
+    fn act(mut self, call: Call, receive: &mut Table, transmit: &Table, out: &mut Block) -> Run {
+        let happened = act(self.terminal, self.bench, call, receive, transmit);
+        let sink = put_happened(self.sink, out, happened);
+        self.sink = sink;
+        let refusal = happened.refusal;
+        if refusal.0 == 0 {
+            let terminal = happened.terminal;
+            self.terminal = terminal;
+        }
+        self
+    }
+
+    // Writes the line of a call that left the terminal as it is, which is that of a number.
+    fn put(
+        mut self,
+        done: Done,
         number: u64,
         line: &[u8],
-        receive: &mut [u16],
-        transmit: &mut [u16],
-        buffer: &mut [u8],
+        receive: &Table,
         out: &mut Block,
     ) -> Run {
-        let bench = self.bench;
-        let done = bench.perform(call_of(line), line, receive, transmit, buffer);
-        let after = done.bench;
-        let sink = self.sink;
         let reply = done.reply;
         let missed = tell(reply, number, line);
-        Run {
-            bench: after,
-            sink: put_reply(sink, out, done, receive),
-            missed: self.missed | missed,
-        }
+        let sink = put_reply(self.sink, out, reply, self.terminal, receive);
+        let bench = done.bench;
+        self.bench = bench;
+        self.sink = sink;
+        self.missed = self.missed | missed;
+        self
     }
 
-    // Runs a line as it was gathered.
+    // Runs a line as it was gathered: makes its call, and writes its line.
     pub(crate) fn run_line(
         self,
         gathering: Gathering,
@@ -173,12 +160,18 @@ impl Run {
             return self;
         }
         let text = between(line, 0, gathering.length);
-        self.run(gathering.number, text, receive, transmit, buffer, out)
+        let call = call_of(text);
+        let name = call.name;
+        if name.is_at_terminal() {
+            return self.act(call, receive, transmit, out);
+        }
+        let done = self.bench.perform(call, text, transmit, buffer);
+        self.put(done, gathering.number, text, receive, out)
     }
 }
 
 // Writes the lines that wait. Where that fails, or failed before, it is said; nothing is read after it, so once.
-pub(crate) fn write_waiting(sink: Sink, out: &Block) -> Sink {
+fn write_waiting(sink: Sink, out: &Block) -> Sink {
     let after = sink.flush(out);
     if after.failed {
         complain(&PROGRAM, b"standard output");
@@ -186,18 +179,28 @@ pub(crate) fn write_waiting(sink: Sink, out: &Block) -> Sink {
     after
 }
 
+impl Run {
+    // Writes the lines that wait. Where that fails nothing more is read.
+    pub(crate) fn written(mut self, out: &Block) -> Run {
+        let sink = write_waiting(self.sink, out);
+        self.sink = sink;
+        self.failed = sink.failed;
+        self.more = !sink.failed;
+        self
+    }
+}
+
 // Takes the bytes of a block, and runs each line that ends in it. What these write goes out with the block, for who waits for it.
 pub(crate) fn run_block(
-    progress: Progress,
+    mut run: Run,
     block: &[u8],
     line: &mut Line,
     receive: &mut Table,
     transmit: &mut Table,
     buffer: &mut Buffer,
     out: &mut Block,
-) -> Progress {
-    let mut run = progress.run;
-    let mut gathering = progress.gathering;
+) -> Run {
+    let mut gathering = run.gathering;
     let mut i = 0;
     while i < block.len() {
         let byte = block[i];
@@ -209,8 +212,6 @@ pub(crate) fn run_block(
         }
         i += 1;
     }
-    let sink = run.sink;
-    let after = write_waiting(sink, out);
-    run.sink = after;
-    Progress { run, gathering }
+    run.gathering = gathering;
+    run.written(out)
 }

@@ -32,19 +32,17 @@ pub(crate) fn plan_of(numbers: [u64; 7]) -> Plan {
 
 impl Bench {
     // plan N C1 C2 BUS E Q
-    pub(crate) fn planned(self, plan: Plan) -> Done {
-        let mut next = self;
-        next.plan = plan;
-        next.planned = true;
-        next.buffered = 0;
-        next.ok()
+    pub(crate) fn planned(mut self, plan: Plan) -> Done {
+        self.plan = plan;
+        self.planned = true;
+        self.buffered = 0;
+        self.ok()
     }
 
     // The same bench with so many bytes in the buffer.
-    fn filled(self, length: usize) -> Done {
-        let mut next = self;
-        next.buffered = length;
-        next.ok()
+    fn filled(mut self, length: usize) -> Done {
+        self.buffered = length;
+        self.ok()
     }
 
     // back TIME BUS SYNC FAULTS WORD PARITY. Without room it is no call, whatever the record.

@@ -4,16 +4,13 @@ use Rattle.cards.proofs.read_all.Statement.{statement}
 use Rattle.cards.proofs.read_all.Tie as tie
 
 abbrev Inv-loop : tie.InvT-loop
-Inv-loop line₀ receive₀ transmit₀ buffer₀ out₀ turn₀ turns₀ line receive transmit buffer out turn turns = Unit {0}
+Inv-loop line₀ receive₀ transmit₀ buffer₀ out₀ run₀ turns₀ line receive transmit buffer out run turns = Unit {0}
 
 abbrev μ-loop : tie.MeasureT-loop
-μ-loop line₀ receive₀ transmit₀ buffer₀ out₀ turn₀ turns₀ line receive transmit buffer out turn turns = turns
+μ-loop line₀ receive₀ transmit₀ buffer₀ out₀ run₀ turns₀ line receive transmit buffer out run turns = turns
 
 start-requires : tie.Need-start-requires Inv-loop μ-loop
 start-requires c κs = tt
-
-start-requires-2 : tie.Need-start-requires-2 Inv-loop μ-loop
-start-requires-2 c κs = tt
 
 loop-holds : tie.Need-loop-holds Inv-loop μ-loop
 loop-holds c = tt
@@ -43,7 +40,6 @@ read-all-spec =
     Inv-loop
     μ-loop
     start-requires
-    start-requires-2
     loop-holds
     read-block-requires
     sub-turns

@@ -6,10 +6,10 @@ use Rattle.cards.proofs.scripts.run_block.Statement.{statement}
 use Rattle.cards.proofs.scripts.run_block.Tie as tie
 
 abbrev Inv-loop : tie.InvT-loop
-Inv-loop block line₀ receive₀ transmit₀ buffer₀ out₀ run₀ gathering₀ i₀ line receive transmit buffer out run gathering i = Unit {0}
+Inv-loop run₀ block line₀ receive₀ transmit₀ buffer₀ out₀ gathering₀ i₀ run line receive transmit buffer out gathering i = Unit {0}
 
 abbrev μ-loop : tie.MeasureT-loop
-μ-loop block line₀ receive₀ transmit₀ buffer₀ out₀ run₀ gathering₀ i₀ line receive transmit buffer out run gathering i = length block - i
+μ-loop run₀ block line₀ receive₀ transmit₀ buffer₀ out₀ gathering₀ i₀ run line receive transmit buffer out gathering i = length block - i
 
 loop-holds : tie.Need-loop-holds Inv-loop μ-loop
 loop-holds c = tt
@@ -35,8 +35,8 @@ loop-less c = search needs
 loop-again : tie.Need-loop-again Inv-loop μ-loop
 loop-again c = tt
 
-write-waiting-requires : tie.Need-write-waiting-requires Inv-loop μ-loop
-write-waiting-requires c κs = tt
+written-requires : tie.Need-written-requires Inv-loop μ-loop
+written-requires c κs = tt
 
 returns : tie.Need-returns Inv-loop μ-loop
 returns c = tt
@@ -55,5 +55,5 @@ run-block-spec =
     add-i
     loop-less
     loop-again
-    write-waiting-requires
+    written-requires
     returns)

@@ -1,30 +1,29 @@
--- `put_forms` is safe and ends: the measure is what is left of the usages. Assumes nothing.
+-- `put_forms` is safe and ends: the measure is what is left of the lines. Assumes nothing.
 use Prim.Native.Nat.{_-_}
-use lib.ListN.{length}
 use borrow.Author.Needs.{needs}
 use Rattle.cards.proofs.usages.put_forms.Statement.{statement}
 use Rattle.cards.proofs.usages.put_forms.Tie as tie
 
 abbrev Inv-loop : tie.InvT-loop
-Inv-loop block₀ usages name after₀ known₀ i₀ block after known i = Unit {0}
+Inv-loop block₀ lines name after₀ known₀ start₀ i₀ block after known start i = Unit {0}
 
 abbrev μ-loop : tie.MeasureT-loop
-μ-loop block₀ usages name after₀ known₀ i₀ block after known i = length usages - i
+μ-loop block₀ lines name after₀ known₀ start₀ i₀ block after known start i = 28 - i
 
 loop-holds : tie.Need-loop-holds Inv-loop μ-loop
 loop-holds c = tt
 
-mul-usage : tie.Need-mul-usage Inv-loop μ-loop
-mul-usage c = search needs
-
-shared-slice-copy-out-usage : tie.Need-shared-slice-copy-out-usage Inv-loop μ-loop
-shared-slice-copy-out-usage c = search needs
+call-at-requires : tie.Need-call-at-requires Inv-loop μ-loop
+call-at-requires c κs = tt
 
 is-of-requires : tie.Need-is-of-requires Inv-loop μ-loop
 is-of-requires c κs = tt
 
 put-form-requires : tie.Need-put-form-requires Inv-loop μ-loop
 put-form-requires c κs = tt
+
+next-line-requires : tie.Need-next-line-requires Inv-loop μ-loop
+next-line-requires c κs = tt
 
 add-i : tie.Need-add-i Inv-loop μ-loop
 add-i c = search needs
@@ -45,10 +44,10 @@ put-forms-spec =
     Inv-loop
     μ-loop
     loop-holds
-    mul-usage
-    shared-slice-copy-out-usage
+    call-at-requires
     is-of-requires
     put-form-requires
+    next-line-requires
     add-i
     loop-less
     loop-again

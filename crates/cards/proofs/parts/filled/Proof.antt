@@ -2,8 +2,8 @@
 use Prim.Native.Nat.{_≤_}
 use lib.ListN.{length}
 use borrow.Author.Needs.{needs}
-use Rattle.cards.proofs.usages.filled.Statement.{statement}
-use Rattle.cards.proofs.usages.filled.Tie as tie
+use Rattle.cards.proofs.parts.filled.Statement.{statement}
+use Rattle.cards.proofs.parts.filled.Tie as tie
 
 abbrev Inv-loop : tie.InvT-loop
 Inv-loop text end₀ end = end ≤ length text
