@@ -1,0 +1,5 @@
+pub mod Cases
+pub mod Splits
+pub mod Sayings
+pub mod Feeds
+pub mod Wholes
