@@ -1,11 +1,11 @@
 // The program's name, with which all begins that it says on standard error, its sentences, where something is and what is wrong with
 // it, and the usage. Refusals: none.
-use crate::entries::Fault;
 use crate::flaws::put_flaw;
 use libc::STDERR_FILENO;
 use lines::Block;
 use lines::Sink;
 use lines::begin_complaint;
+use plans::Fault;
 use schedule::Message;
 use status::Status;
 

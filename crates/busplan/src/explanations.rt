@@ -6,10 +6,10 @@ use crate::complaints::complain_of_frame;
 use crate::complaints::complain_of_place;
 use crate::complaints::complain_of_planner;
 use crate::complaints::complain_of_room;
-use crate::drafts::Draft;
 use crate::trials::NO_MESSAGE;
 use crate::trials::first_homeless;
 use crate::trials::first_refused;
+use plans::Draft;
 use schedule::Frames;
 use schedule::Schedule;
 
@@ -40,63 +40,61 @@ fn total_load(schedule: Schedule) -> u64 {
     total(&loads)
 }
 
-impl Draft {
-    // Gives the line of a message, also of the 65th.
-    fn line_of(self, number: u64) -> u64 {
-        if number < 65 {
-            return self.lines[number as usize];
-        }
-        0
+// Gives the line of a message, also of the 65th.
+fn line_of(draft: Draft, number: u64) -> u64 {
+    if number < 65 {
+        return draft.lines[number as usize];
     }
+    0
+}
 
-    // Says which message is the first that is refused, and why. Where none of the 64 is, there is one more.
-    pub(crate) fn explain_refusal(self, name: &[u8]) {
-        let schedule = self.schedule;
-        let number = first_refused(schedule);
-        let line = self.line_of(number);
-        if number < NO_MESSAGE {
-            let message = schedule.messages[number as usize];
-            return complain_of_flaw(name, number, line, message);
-        }
-        complain_of_count(name, number, line)
+// Says which message is the first that is refused, and why. Where none of the 64 is, there is one more.
+pub(crate) fn explain_refusal(draft: Draft, name: &[u8]) {
+    let schedule = draft.schedule;
+    let number = first_refused(schedule);
+    let line = line_of(draft, number);
+    if number < NO_MESSAGE {
+        let message = schedule.messages[number as usize];
+        return complain_of_flaw(name, number, line, message);
     }
+    complain_of_count(name, number, line)
+}
 
-    // Says why a message is rejected.
-    pub(crate) fn explain_first(self, name: &[u8], number: u64) {
-        let schedule = self.schedule;
-        if number < NO_MESSAGE {
-            let message = schedule.messages[number as usize];
-            let first = self.firsts[number as usize];
-            complain_of_first(name, number, self.line_of(number), first, message.period);
-        }
+// Says why a message is rejected.
+pub(crate) fn explain_first(draft: Draft, name: &[u8], number: u64) {
+    let schedule = draft.schedule;
+    if number < NO_MESSAGE {
+        let message = schedule.messages[number as usize];
+        let first = draft.firsts[number as usize];
+        complain_of_first(name, number, line_of(draft, number), first, message.period);
     }
+}
 
-    // Says why a frame is rejected.
-    pub(crate) fn explain_frame(self, name: &[u8], frame: u64) {
-        let schedule = self.schedule;
-        let firsts = self.firsts;
-        let mut loads = [0u64; 64];
-        schedule.loads(&firsts, &mut loads);
-        if frame < 64 {
-            let capacity = self.capacities[frame as usize];
-            complain_of_frame(name, frame, loads[frame as usize], capacity);
-        }
+// Says why a frame is rejected.
+pub(crate) fn explain_frame(draft: Draft, name: &[u8], frame: u64) {
+    let schedule = draft.schedule;
+    let firsts = draft.firsts;
+    let mut loads = [0u64; 64];
+    schedule.loads(&firsts, &mut loads);
+    if frame < 64 {
+        let capacity = draft.capacities[frame as usize];
+        complain_of_frame(name, frame, loads[frame as usize], capacity);
     }
+}
 
-    // Says why the planner found none, where it is certain that there is none: a message that has no place alone, or no room in all frames.
-    pub(crate) fn explain_none(self, name: &[u8]) {
-        let schedule = self.schedule;
-        let capacities = self.capacities;
-        let number = first_homeless(schedule, &capacities);
-        if number < NO_MESSAGE {
-            let message = schedule.messages[number as usize];
-            return complain_of_place(name, number, self.line_of(number), message.load());
-        }
-        let load = total_load(schedule);
-        let room = total(&capacities);
-        if load > room {
-            return complain_of_room(name, load, room);
-        }
-        complain_of_planner(name)
+// Says why the planner found none, where it is certain that there is none: a message that has no place alone, or no room in all frames.
+pub(crate) fn explain_none(draft: Draft, name: &[u8]) {
+    let schedule = draft.schedule;
+    let capacities = draft.capacities;
+    let number = first_homeless(schedule, &capacities);
+    if number < NO_MESSAGE {
+        let message = schedule.messages[number as usize];
+        return complain_of_place(name, number, line_of(draft, number), message.load());
     }
+    let load = total_load(schedule);
+    let room = total(&capacities);
+    if load > room {
+        return complain_of_room(name, load, room);
+    }
+    complain_of_planner(name)
 }

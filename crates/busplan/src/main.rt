@@ -1,16 +1,12 @@
-// busplan [-v] [-o OUT] FILE: checks a schedule of messages, or proposes the first frames where one is missing (02 j). Thin over `schedule`:
-// arguments, a text, lines out, and a file where one is asked for. Refusals: 15, in the line that closes the lines. Whatever is not accepted,
+// busplan [-v] [-o OUT] FILE: checks a schedule of messages, or proposes the first frames where one is missing (02 j). Thin over `schedule`
+// and `plans`: arguments, lines out, and a file where one is asked for. Refusals: 15, in the line that closes the lines. Whatever is not accepted,
 // and what cannot be opened, read, made or written, is said on standard error.
 mod arguments;
 mod complaints;
-mod drafts;
-mod entries;
 mod explanations;
 mod files;
 mod flaws;
-mod gatherings;
 mod outputs;
-mod parts;
 mod readers;
 mod runs;
 mod trials;

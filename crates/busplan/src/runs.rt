@@ -4,18 +4,22 @@
 use crate::complaints::PROGRAM;
 use crate::complaints::complain_of_line;
 use crate::complaints::say_proposed;
-use crate::drafts::Draft;
+use crate::explanations::explain_first;
+use crate::explanations::explain_frame;
+use crate::explanations::explain_none;
+use crate::explanations::explain_refusal;
 use crate::files::save;
 use crate::outputs::Form;
 use crate::outputs::write_line;
 use crate::outputs::write_named;
 use crate::outputs::write_numbered;
 use crate::outputs::write_schedule;
-use crate::readers::Reading;
+use crate::readers::Source;
 use crate::readers::read_plan;
 use libc::STDIN_FILENO;
 use lines::complain;
 use lines::is_dash;
+use plans::Draft;
 use schedule::Outcome;
 use schedule::Proposal;
 use words::Refusal;
@@ -54,108 +58,103 @@ fn form_of(in_words: bool) -> Form {
     Form::Brief
 }
 
-impl Draft {
-    // Writes all messages and frames.
-    fn list(self, in_words: bool) -> bool {
-        let schedule = self.schedule;
-        let firsts = self.firsts;
-        let capacities = self.capacities;
-        write_schedule(form_of(in_words), schedule, &firsts, &capacities)
-    }
+// Writes all messages and frames.
+fn list(draft: Draft, in_words: bool) -> bool {
+    let schedule = draft.schedule;
+    let firsts = draft.firsts;
+    let capacities = draft.capacities;
+    write_schedule(form_of(in_words), schedule, &firsts, &capacities)
+}
 
-    // "more messages, another period or an impossible plan is refused with 15": that line alone.
-    fn refuse(self, name: &[u8], refusal: Refusal) -> bool {
-        self.explain_refusal(name);
-        end_numbered(b"# refused ", refusal.0 as u64)
-    }
+// "more messages, another period or an impossible plan is refused with 15": that line alone.
+fn refuse(draft: Draft, name: &[u8], refusal: Refusal) -> bool {
+    explain_refusal(draft, name);
+    end_numbered(b"# refused ", refusal.0 as u64)
+}
 
-    // Ends the lines of a plan with a first frame that is not below its period: that line alone.
-    fn reject_message(self, name: &[u8], message: u64) -> bool {
-        self.explain_first(name, message);
-        end_numbered(b"# rejected message=", message)
-    }
+// Ends the lines of a plan with a first frame that is not below its period: that line alone.
+fn reject_message(draft: Draft, name: &[u8], message: u64) -> bool {
+    explain_first(draft, name, message);
+    end_numbered(b"# rejected message=", message)
+}
 
-    // Ends the lines of a plan that overloads a frame, behind all messages and frames.
-    fn reject_frame(self, name: &[u8], in_words: bool, frame: u64) -> bool {
-        if !self.list(in_words) {
-            return false;
-        }
-        self.explain_frame(name, frame);
-        end_numbered(b"# rejected frame=", frame)
+// Ends the lines of a plan that overloads a frame, behind all messages and frames.
+fn reject_frame(draft: Draft, name: &[u8], in_words: bool, frame: u64) -> bool {
+    if !list(draft, in_words) {
+        return false;
     }
+    explain_frame(draft, name, frame);
+    end_numbered(b"# rejected frame=", frame)
+}
 
-    // Ends the lines of a plan that holds, behind all messages and frames and once its file is on the disk, where one is asked for.
-    fn accept(self, out: &[u8], in_words: bool) -> bool {
-        if !self.list(in_words) {
-            return false;
-        }
-        let schedule = self.schedule;
-        let firsts = self.firsts;
-        let capacities = self.capacities;
-        if out.len() > 0 {
-            if !save(out, schedule, &firsts, &capacities) {
-                return end_named(out);
-            }
-        }
-        write_line(b"# accepted")
+// Ends the lines of a plan that holds, behind all messages and frames and once its file is on the disk, where one is asked for.
+fn accept(draft: Draft, out: &[u8], in_words: bool) -> bool {
+    if !list(draft, in_words) {
+        return false;
     }
-
-    // Writes what the check says of a schedule.
-    fn check(self, name: &[u8], out: &[u8], in_words: bool) -> bool {
-        let schedule = self.schedule;
-        let firsts = self.firsts;
-        let capacities = self.capacities;
-        match schedule.check(&firsts, &capacities) {
-            Outcome::Refused(refusal) => self.refuse(name, refusal),
-            Outcome::RejectedMessage(message) => self.reject_message(name, message),
-            Outcome::RejectedFrame(frame) => self.reject_frame(name, in_words, frame),
-            Outcome::Accepted => self.accept(out, in_words),
+    let schedule = draft.schedule;
+    let firsts = draft.firsts;
+    let capacities = draft.capacities;
+    if out.len() > 0 {
+        if !save(out, schedule, &firsts, &capacities) {
+            return end_named(out);
         }
     }
+    write_line(b"# accepted")
+}
 
-    // "The planner's own output goes through the same check."
-    fn propose(self, name: &[u8], out: &[u8], in_words: bool) -> bool {
-        let schedule = self.schedule;
-        let capacities = self.capacities;
-        let mut firsts = [0u64; 64];
-        match schedule.propose(&capacities, &mut firsts) {
-            Proposal::Found => {
-                say_proposed(name, schedule.count, self.given);
-                self.with_firsts(firsts).check(name, out, in_words)
-            }
-            Proposal::None => {
-                self.explain_none(name);
-                write_line(b"# none");
-                false
-            }
-            Proposal::Refused(refusal) => self.refuse(name, refusal),
-        }
-    }
-
-    // Checks a plan that has all its first frames, and else proposes all of them.
-    fn judge(self, name: &[u8], out: &[u8], in_words: bool) -> bool {
-        if self.unplaced {
-            return self.propose(name, out, in_words);
-        }
-        self.check(name, out, in_words)
+// Writes what the check says of a schedule.
+fn check(draft: Draft, name: &[u8], out: &[u8], in_words: bool) -> bool {
+    let schedule = draft.schedule;
+    let firsts = draft.firsts;
+    let capacities = draft.capacities;
+    match schedule.check(&firsts, &capacities) {
+        Outcome::Refused(refusal) => refuse(draft, name, refusal),
+        Outcome::RejectedMessage(message) => reject_message(draft, name, message),
+        Outcome::RejectedFrame(frame) => reject_frame(draft, name, in_words, frame),
+        Outcome::Accepted => accept(draft, out, in_words),
     }
 }
 
-impl Reading {
-    // Ends the lines of a plan, whatever stopped its reading.
-    fn close(self, name: &[u8], out: &[u8], in_words: bool) -> bool {
-        if self.failed {
-            return fail(name);
+// "The planner's own output goes through the same check."
+fn propose(draft: Draft, name: &[u8], out: &[u8], in_words: bool) -> bool {
+    let schedule = draft.schedule;
+    let capacities = draft.capacities;
+    let mut firsts = [0u64; 64];
+    match schedule.propose(&capacities, &mut firsts) {
+        Proposal::Found => {
+            say_proposed(name, schedule.count, draft.given);
+            check(draft.with_firsts(firsts), name, out, in_words)
         }
-        let draft = self.draft;
-        if !draft.is_bad() {
-            return draft.judge(name, out, in_words);
+        Proposal::None => {
+            explain_none(draft, name);
+            write_line(b"# none");
+            false
         }
-        let number = self.gathering.number;
-        let fault = draft.fault;
-        complain_of_line(name, number, fault);
-        end_numbered(b"# error line=", number)
+        Proposal::Refused(refusal) => refuse(draft, name, refusal),
     }
+}
+
+// Checks a plan that has all its first frames, and else proposes all of them.
+fn judge(draft: Draft, name: &[u8], out: &[u8], in_words: bool) -> bool {
+    if draft.unplaced {
+        return propose(draft, name, out, in_words);
+    }
+    check(draft, name, out, in_words)
+}
+
+// Ends the lines of a plan, whatever stopped its reading.
+fn close(source: Source, name: &[u8], out: &[u8], in_words: bool) -> bool {
+    if source.failed {
+        return fail(name);
+    }
+    let draft = source.reading.end();
+    if !draft.is_bad() {
+        return judge(draft, name, out, in_words);
+    }
+    let fault = draft.fault;
+    complain_of_line(name, draft.line, fault);
+    end_numbered(b"# error line=", draft.line)
 }
 
 // Checks or proposes the schedule of a plan; a file of it is made where that has a name. The first line goes out before the plan is opened: where
@@ -168,5 +167,5 @@ pub(crate) fn plan(name: &[u8], out: &[u8], in_words: bool) -> bool {
     if input < 0 {
         return fail(name);
     }
-    read_plan(input).close(name, out, in_words)
+    close(read_plan(input), name, out, in_words)
 }
