@@ -3,3 +3,5 @@ pub mod Splits
 pub mod Sayings
 pub mod Feeds
 pub mod Wholes
+pub mod Backs
+pub mod Returns

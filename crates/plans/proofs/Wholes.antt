@@ -326,7 +326,7 @@ draft-stops : (d : Draft) (number : ℕ) (line : List ℕ) (lines : List (List �
 unfolding draftFrom
 draft-stops d number line lines entry e f = rw (e, f)
 
-draft-goes : (d : Draft) (number : ℕ) (line : List ℕ) (lines : List (List ℕ)) (entry : Entry) → entryOf line ≡ entry
+pub draft-goes : (d : Draft) (number : ℕ) (line : List ℕ) (lines : List (List ℕ)) (entry : Entry) → entryOf line ≡ entry
     → isFault (afterEntry d entry number .fault) ≡ false → draftFrom d number (line ∷ lines) ≡ draftFrom (afterEntry d entry number) (oneMore number) lines
 unfolding draftFrom
 draft-goes d number line lines entry e f = rw (e, f)
@@ -454,7 +454,7 @@ module _ (bytes : List ℕ) (on : ReadOn bytes) (line : List ℕ) (d : Draft) (g
       by true e false f = end-good byte e f
       by false e b f = ⊎-elim (byte-stops byte e) (byte-goes byte e) (byte-taken g good byte)
 
-last-line : (d : Draft) (number : ℕ) (line : List ℕ) → draftFrom d number (line ∷ []) ≡ afterEntry d (entryOf line) number
+pub last-line : (d : Draft) (number : ℕ) (line : List ℕ) → draftFrom d number (line ∷ []) ≡ afterEntry d (entryOf line) number
 unfolding draftFrom
 last-line d number line = by (isFault (afterEntry d (entryOf line) number .fault))
   where
