@@ -54,7 +54,7 @@ choice-sixteen last s l =
 pub place-sixteen : (last : Last) (s : List ℕ) → 16 ≤ length s → placeOf last (take 16 s) ≡ placeOf last s
 unfolding placeOf
 place-sixteen last s l =
-    sym (ap (placeBy last) (read-front (take 16 s) (drop 16 s) (omega (arith, length-take-le 16 s l)))) ∙ ap (λ (k : List ℕ). placeBy last (readOf k)) (take-append-drop 16 s)
+    sym (ap (placeBy last) (read-front lastBus (take 16 s) (drop 16 s) (omega (arith, length-take-le 16 s l)))) ∙ ap (λ (k : List ℕ). placeBy last (readOf lastBus k)) (take-append-drop 16 s)
 
 -- what a choice to keep shows
 pub found : (last : Last) (s : List ℕ) (t : Moment) → choiceOf last s ≡ Keeps t → InTime last s t
@@ -138,39 +138,39 @@ skipped-one last x s l q = rw (le-ltb _ _ l, q)
 -- it is one to keep or to skip as the choice is, and says whether a record stands there
 pub record Passed (last : Last) (s : List ℕ) (stray : ℕ) : Type 0 where
   pub skips : choiceOf last s ≡ Skips
-  pub counted : stray ≡ strayIn (readOf s)
+  pub counted : stray ≡ strayIn (readOf lastBus s)
 
 pub place-skips : (last : Last) (s : List ℕ) (stray : ℕ) → placeOf last s ≡ place.Skips stray → Passed last s stray
 unfolding placeOf choiceOf
-place-skips last s stray q = by (readOf s) refl q
+place-skips last s stray q = by (readOf lastBus s) refl q
   where
-    late : (r : WordRecord) (b : Bool) → readOf s ≡ Record r → inTime last (r .time .0) ≡ b → cond b place.Keeps (place.Skips 1) ≡ place.Skips stray → Passed last s stray
+    late : (r : WordRecord) (b : Bool) → readOf lastBus s ≡ Record r → inTime last (r .time .0) ≡ b → cond b place.Keeps (place.Skips 1) ≡ place.Skips stray → Passed last s stray
     late r true e h k = let z : _≡_ {A = ℕ} 0 1 = cc in absurd (omega arith)
     late r false e h k = record { skips = rw (e, h); counted = rw e (cc) }
 
-    by : (g : Read) → readOf s ≡ g → placeBy last g ≡ place.Skips stray → Passed last s stray
+    by : (g : Read) → readOf lastBus s ≡ g → placeBy last g ≡ place.Skips stray → Passed last s stray
     by (Record r) e k = late r (inTime last (r .time .0)) e refl k
     by (Refused n) e k = record { skips = rw e; counted = rw e (cc) }
 
 pub place-keeps : (last : Last) (s : List ℕ) → placeOf last s ≡ place.Keeps → skippedFrom last s ≡ 0
 unfolding placeOf
-place-keeps last s q = by (readOf s) refl q
+place-keeps last s q = by (readOf lastBus s) refl q
   where
-    kept-by : (r : WordRecord) (b : Bool) → readOf s ≡ Record r → inTime last (r .time .0) ≡ b → cond b place.Keeps (place.Skips 1) ≡ place.Keeps → skippedFrom last s ≡ 0
+    kept-by : (r : WordRecord) (b : Bool) → readOf lastBus s ≡ Record r → inTime last (r .time .0) ≡ b → cond b place.Keeps (place.Skips 1) ≡ place.Keeps → skippedFrom last s ≡ 0
     kept-by r true e h k = skipped-kept last s (r .time) (sym (choice-kept last s _ (sym e) r true refl (sym h) refl))
     kept-by r false e h k = let z : _≡_ {A = ℕ} 0 1 = cc in absurd (omega arith)
 
-    by : (g : Read) → readOf s ≡ g → placeBy last g ≡ place.Keeps → skippedFrom last s ≡ 0
+    by : (g : Read) → readOf lastBus s ≡ g → placeBy last g ≡ place.Keeps → skippedFrom last s ≡ 0
     by (Record r) e k = kept-by r (inTime last (r .time .0)) e refl k
     by (Refused n) e k = let z : _≡_ {A = ℕ} 0 1 = cc in absurd (omega arith)
 
 -- one place more
-pub strays-next : (n : ℕ) (s : List ℕ) → straysIn (n + 1) s ≡ straysIn n s + strayIn (readOf (drop n s))
+pub strays-next : (n : ℕ) (s : List ℕ) → straysIn (n + 1) s ≡ straysIn n s + strayIn (readOf lastBus (drop n s))
 strays-next zero s = omega arith
 strays-next (suc n) s =
     ap (λ (k : ℕ). straysIn k s) {x = suc n + 1} {y = suc (n + 1)} (omega arith)
-    ∙ ap (λ (k : ℕ). strayIn (readOf s) + k) (strays-next n (drop 1 s))
-    ∙ ap (λ (k : List ℕ). strayIn (readOf s) + (straysIn n (drop 1 s) + strayIn (readOf k))) (drop-drop n 1 s ∙ ap (λ (k : ℕ). drop k s) {x = 1 + n} {y = suc n} (omega arith))
+    ∙ ap (λ (k : ℕ). strayIn (readOf lastBus s) + k) (strays-next n (drop 1 s))
+    ∙ ap (λ (k : List ℕ). strayIn (readOf lastBus s) + (straysIn n (drop 1 s) + strayIn (readOf lastBus k))) (drop-drop n 1 s ∙ ap (λ (k : ℕ). drop k s) {x = 1 + n} {y = suc n} (omega arith))
     ∙ omega arith
 
 -- no place has more than one
@@ -180,7 +180,7 @@ stray-few (Refused n) = omega arith
 
 pub strays-few : (n : ℕ) (s : List ℕ) → straysIn n s ≤ n
 strays-few zero s = omega arith
-strays-few (suc n) s = omega (arith, stray-few (readOf s), strays-few n (drop 1 s))
+strays-few (suc n) s = omega (arith, stray-few (readOf lastBus s), strays-few n (drop 1 s))
 
 -- ---- no stretch is longer than the bytes
 

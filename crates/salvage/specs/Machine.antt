@@ -6,7 +6,7 @@ use mathlib.Core.List.{List, [], _∷_}
 use lib.Dec.{ltb, eqb}
 use lib.ListN.{length, drop}
 use Rattle.words.specs.Counts.{sum64}
-use Rattle.records.specs.Records.{recordBytes, recordAt, readOf}
+use Rattle.records.specs.Records.{recordBytes, lastBus, recordAt, readOf}
 use Rattle.records.specs.declared.forms.Read.{Read}
 use Rattle.records.specs.declared.forms.Read.the-variants as read
 use Rattle.windows.specs.Windows.{emptyWindow, countOf, waitingIn, afterTaking, filledOf, filledRoom}
@@ -63,7 +63,7 @@ placeBy last (read.Record r) = cond (inTime last (r .time .0)) place.Keeps (plac
 placeBy last (read.Refused n) = place.Skips 0
 
 unfoldable pub placeOf : Last → List ℕ → Place
-placeOf last bytes = placeBy last (readOf bytes)
+placeOf last bytes = placeBy last (readOf lastBus bytes)
 
 -- At how many of the first places of some bytes a record stands.
 abbrev pub strayIn : Read → ℕ
@@ -72,7 +72,7 @@ strayIn (read.Refused n) = 0
 
 abbrev pub straysIn : ℕ → List ℕ → ℕ
 straysIn zero bytes = 0
-straysIn (suc places) bytes = strayIn (readOf bytes) + straysIn places (drop 1 bytes)
+straysIn (suc places) bytes = strayIn (readOf lastBus bytes) + straysIn places (drop 1 bytes)
 
 -- Those that stand among the skipped bytes are refused for their time alone.
 abbrev pub skipsFrom : Last → List ℕ → Skipped

@@ -58,7 +58,7 @@ impl Last {
     pub(crate) fn look(self, bytes: &[u8]) -> Place
         ensures place { λ r. ⌜ r ≡ placeOf self (now (bytes .entry)) ⌝ }
     {
-        let Read::Record(record) = read_record(bytes) else {
+        let Read::Record(record) = read_record(bytes, LAST_BUS) else {
             return Place::Skips(0);
         };
         if self.allows(record.time) {
