@@ -38,7 +38,7 @@ length-placed (m ∷ ms) [] h = absurd (not-suc-le-zero h)
 length-placed (m ∷ ms) (f ∷ fs) h = ap suc (length-placed ms fs (le-of-suc-le-suc h))
 
 -- the one at a place, and those behind it
-placed-on : (ms : List Message) (fs : List ℕ) (i : ℕ) (d : Message) → i < length ms → length ms ≤ length fs
+pub placed-on : (ms : List Message) (fs : List ℕ) (i : ℕ) (d : Message) → i < length ms → length ms ≤ length fs
     → drop i (placedOf ms fs) ≡ record { message = getD ms i d; start = getD fs i 0 } ∷ drop (suc i) (placedOf ms fs)
 unfolding placedOf
 placed-on [] fs i d h k = absurd (not-suc-le-zero h)

@@ -137,19 +137,31 @@ module _ (between : ℕ) (m : Message) where
 
 -- ---- a line
 
--- room for the longest line
-pub room-line : (at room : ℕ) → room ≡ roomAt at lineMost → room + lineMost ≤ blockBytes
+-- where room for so many bytes was asked, they fit
+pub room-for : (most at room : ℕ) → most ≤ blockBytes → room ≡ roomAt at most → room + most ≤ blockBytes
 unfolding roomAt fitsBehind
-room-line at room q = omega (arith, q, by (fitsBehind at lineMost) refl)
+room-for most at room l q = omega (arith, q, by (fitsBehind at most) refl)
   where
-    by : (b : Bool) → fitsBehind at lineMost ≡ b → cond b at 0 + lineMost ≤ blockBytes
-    by true e = leb-true (at + lineMost) blockBytes e
-    by false e = omega arith
+    by : (b : Bool) → fitsBehind at most ≡ b → cond b at 0 + most ≤ blockBytes
+    by true e = leb-true (at + most) blockBytes e
+    by false e = omega (arith, l)
 
-pub line-place : (at room after : ℕ) (block text last : List ℕ) → room ≡ roomAt at lineMost → Spelled block room text last after → after ≡ placeAfterLine at text
-unfolding placeAfterLine
-line-place at room after block text last e spelled = spelled .place ∙ ap (λ (n : ℕ). n + length text) e
+-- and what is spelled there stands where the definitions say
+module _ (most at room after : ℕ) (block text last : List ℕ) (e : room ≡ roomAt at most) (spelled : Spelled block room text last after) where
+  pub room-place : after ≡ roomAt at most + length text
+  room-place = spelled .place ∙ ap (λ (n : ℕ). n + length text) e
 
-pub line-block : (at room after : ℕ) (block text last : List ℕ) → room ≡ roomAt at lineMost → Spelled block room text last after → last ≡ blockAfterLine block at text
-unfolding blockAfterLine
-line-block at room after block text last e spelled = spelled .bytes ∙ ap (λ (n : ℕ). putAt block n text) e
+  pub room-block : last ≡ putAt block (roomAt at most) text
+  room-block = spelled .bytes ∙ ap (λ (n : ℕ). putAt block n text) e
+
+pub room-line : (at room : ℕ) → room ≡ roomAt at lineMost → room + lineMost ≤ blockBytes
+room-line at room e = room-for lineMost at room (omega arith) e
+
+module _ (at room after : ℕ) (block text last : List ℕ) (e : room ≡ roomAt at lineMost) (spelled : Spelled block room text last after) where
+  pub line-place : after ≡ placeAfterLine at text
+  unfolding placeAfterLine
+  line-place = room-place lineMost at room after block text last e spelled
+
+  pub line-block : last ≡ blockAfterLine block at text
+  unfolding blockAfterLine
+  line-block = room-block lineMost at room after block text last e spelled

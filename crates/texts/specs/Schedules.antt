@@ -41,3 +41,7 @@ closingText (RejectedMessage message) = numberText (textOf "# rejected message="
 closingText (Refused refusal) = numberText (textOf "# refused ") (refusal .0)
 closingText NoSchedule = textOf "# none"
 closingText (BadLine line) = numberText (textOf "# error line=") line
+
+-- The most bytes of the text that `-o` writes (plans' `planText`), with room to spare: 64 lines of capacities and 64 of messages.
+abbrev pub planMost : ℕ
+planMost = 8192

@@ -6,6 +6,7 @@ mod flaws;
 mod puts;
 mod schedules;
 mod shows;
+mod writings;
 
 pub use closings::put_log_end;
 pub use closings::put_log_refused;
@@ -17,3 +18,4 @@ pub use schedules::put_closing;
 pub use schedules::put_frame;
 pub use schedules::put_slot;
 pub use shows::Wanted;
+pub use writings::put_plan;

@@ -38,7 +38,7 @@ fn spell_brief(block: &mut Block, at: usize, number: u64, message: Message, firs
 }
 
 // Spells one command word, or two with a byte between them.
-fn spell_words(block: &mut Block, at: usize, between: u8, message: Message) -> usize
+pub(crate) fn spell_words(block: &mut Block, at: usize, between: u8, message: Message) -> usize
     requires { ⌜ at + 9 ≤ blockBytes ⌝ }
     ensures text { λ r. ⌜ Spelled (now (block .entry)) at (wordsText between message) (now (block .exit)) r ⌝ }
     ensures most { λ r. ⌜ r ≤ at + 9 ⌝ }
