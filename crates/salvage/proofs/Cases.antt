@@ -65,11 +65,11 @@ module _ (s : Settled) (stretch : Stretch) where
   unfolding settledKept
   settled-none h = rw (eq-eqb _ _ h)
 
-  pub settled-some : {end place records : ℕ} → (stretch .bytes ≡ 0 → ⊥)
+  pub settled-some : {last : Last} {end place records : ℕ} → (stretch .bytes ≡ 0 → ⊥) → last ≡ stretch .last
       → end ≡ sum64 (s .run .place) (s .run .length) → place ≡ sum64 end (stretch .bytes) → records ≡ sum64 (s .records) (stretch .bytes / 16)
-      → record { last = stretch .last; run = record { place = place; length = 0 }; records = records; skipped = s .skipped } ≡ settledKept s stretch
+      → record { last = last; run = record { place = place; length = 0 }; records = records; skipped = s .skipped } ≡ settledKept s stretch
   unfolding settledKept
-  settled-some h e p r = rw (ne-eqb _ _ h, p, e, r)
+  settled-some h l e p r = rw (ne-eqb _ _ h, l, p, e, r)
 
   pub run-none : stretch .bytes ≡ 0 → record { place = 0; length = 0 } ≡ runEnded s stretch
   unfolding runEnded

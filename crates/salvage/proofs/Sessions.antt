@@ -142,7 +142,7 @@ module _ (s : Settled) (waiting rest clean : List ℕ) (runs : List Run) (k : St
       (subst (Asked s waiting rest clean runs k n s) (run-none s k h) (asked-none h (e h))))
       (λ some.
       let h : k .bytes ≡ 0 → ⊥ = λ z. some (omega arith) in
-      subst (λ (x : Settled). Asked s waiting rest clean runs k n x (runEnded s k)) (settled-some s k h refl refl refl)
+      subst (λ (x : Settled). Asked s waiting rest clean runs k n x (runEnded s k)) (settled-some s k h refl refl refl refl)
       (subst (Asked s waiting rest clean runs k n _) (run-some s k h) (asked-some h)))
 
   -- what is going stays going

@@ -121,7 +121,8 @@ impl Settled {
             return self;
         }
         let records = stretch.bytes / RECORD_BYTES;
-        let last = stretch.last;
+        let kept = stretch.last;
+        let last = kept.anew();
         let end = wrapping_add_u64(self.run.place, self.run.length);
         let place = wrapping_add_u64(end, stretch.bytes as u64);
         Settled {
@@ -136,7 +137,8 @@ impl Settled {
     fn skip(self, bytes: u64) -> Settled
         ensures settled { λ r. ⌜ r ≡ settledSkipped self bytes ⌝ }
     {
-        let last = self.last;
+        let kept = self.last;
+        let last = kept.anew();
         Settled {
             last,
             run: Run {

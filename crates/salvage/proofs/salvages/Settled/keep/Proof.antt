@@ -7,6 +7,9 @@ use Rattle.salvage.proofs.salvages.Settled.keep.Tie as tie
 returns : tie.Need-returns
 returns c = search (settled-none, needs)
 
+anew-requires : tie.Need-anew-requires
+anew-requires c κs = search needs
+
 wrapping-add-u64-requires : tie.Need-wrapping-add-u64-requires
 wrapping-add-u64-requires c κs = search needs
 
@@ -24,6 +27,7 @@ keep-spec =
     tie.close
     (tie.spec
     returns
+    anew-requires
     wrapping-add-u64-requires
     wrapping-add-u64-requires-2
     wrapping-add-u64-requires-3
