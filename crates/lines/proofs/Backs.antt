@@ -42,7 +42,7 @@ is-digit n =
     let e = last-digit n in
     rw (le-leb 48 (digitOf (n % 10)) (omega arith), le-leb (digitOf (n % 10)) 57 (omega arith))
 
-text-digits : (most n : ℕ) → areDigits (decimalIn most n) ≡ true
+pub text-digits : (most n : ℕ) → areDigits (decimalIn most n) ≡ true
 unfolding decimalIn areDigits
 text-digits zero n = refl
 text-digits (suc most) n = digits-snoc (cond (ltb n 10) [] (decimalIn most (n / 10))) (digitOf (n % 10)) (by (ltb n 10) (text-digits most (n / 10))) (is-digit n)
@@ -51,7 +51,7 @@ text-digits (suc most) n = digits-snoc (cond (ltb n 10) [] (decimalIn most (n / 
     by true h = refl
     by false h = h
 
-text-length : (most n : ℕ) → length (decimalIn most n) ≤ most
+pub text-length : (most n : ℕ) → length (decimalIn most n) ≤ most
 unfolding decimalIn
 text-length zero n = omega arith
 text-length (suc most) n = by (ltb n 10) (text-length most (n / 10))
@@ -60,7 +60,7 @@ text-length (suc most) n = by (ltb n 10) (text-length most (n / 10))
     by true h = omega arith
     by false h = simp length-append (omega arith)
 
-text-some : (most n : ℕ) → 1 ≤ length (decimalIn (suc most) n)
+pub text-some : (most n : ℕ) → 1 ≤ length (decimalIn (suc most) n)
 unfolding decimalIn
 text-some most n = simp length-append (omega arith)
 

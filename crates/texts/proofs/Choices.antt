@@ -1,12 +1,15 @@
 -- The texts that a test or a number chooses, by what the code has at that place. Assumes nothing.
-use mathlib.Core.Path.{_≡_, refl, sym, ap, _∙_}
+use mathlib.Core.Path.{_≡_, refl, sym, ap, subst, _∙_}
 use mathlib.Core.Bool.{Bool, true, false, cond, not, true≢false}
 use Prim.Native.Nat.{ℕ, suc, _+_, _≤_}
 use native.Mathlib.Omega.{arith}
+use native.Mathlib.Decide.{decLe}
+use mathlib.Core.Logic.{dite}
 use mathlib.Core.List.{List, [], _∷_, _++_}
 use lib.Dec.{eqb}
 use lib.ListN.{length, take, drop, take-append-drop, List·getD-eq-default}
 use borrow.Author.Tests.{eq-eqb, ne-eqb, leb-true}
+use Rattle.words.proofs.Truth.{passes, passed}
 use Rattle.words.specs.Words.{addressOf, subaddressOf, countOf, wordsOf, isTransmit, isBroadcast, isMode, parityOf}
 use Rattle.lines.specs.Sinks.{blockBytes, fitsBehind, putAt, wordText}
 use Rattle.lines.specs.Spells.{textOf, numberText, Spelled, lineMost, roomAt, placeAfterLine, blockAfterLine}
@@ -35,6 +38,14 @@ past k n l e = omega (arith, l, e)
 pub unnamed : (number : ℕ) → 13 ≤ number → textOf " unnamed" ≡ verdictName number
 unfolding verdictName
 unnamed number l = sym (List·getD-eq-default verdictNames (textOf " unnamed") {n = number} l)
+
+-- what a test says of each name, and of what has none
+pub each-name : (test : List ℕ → Bool) → passes 13 (λ (n : ℕ). test (verdictName n)) ≡ true → test (textOf " unnamed") ≡ true
+    → (number : ℕ) → test (verdictName number) ≡ true
+each-name test all other number =
+    dite (decLe 13 number)
+    (λ l. subst (λ (text : List ℕ). test text ≡ true) (unnamed number l) other)
+    (λ l. passed 13 (λ (n : ℕ). test (verdictName n)) all number (omega (arith, l)))
 
 module _ (command : ℕ) where
   pub address-all : isBroadcast command ≡ true → textOf "all" ≡ addressText command

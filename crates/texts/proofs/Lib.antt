@@ -1,2 +1,5 @@
 pub mod Choices
 pub mod Lines
+pub mod Signs
+pub mod Tellings
+pub mod Examples

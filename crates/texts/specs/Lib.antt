@@ -3,3 +3,4 @@ pub mod Entries
 pub mod Logs
 pub mod Saves
 pub mod Schedules
+pub mod Theorems
