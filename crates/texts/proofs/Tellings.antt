@@ -79,6 +79,16 @@ both {A} {B} {text = text} {text₂ = text₂} first second behind =
           (ap₂ {C = A × B} (λ (u : A) (v : B). (u, v)) (one .0) (two .0), two .1);
     }
 
+-- a thing that is made of the fields that its text has
+made-of : {A B : Type 0} {Fit : A → Type 0} {Fit₂ : B → Type 0} {Behind : List ℕ → Type 0} {text : B → List ℕ} (fields : A → B) (made : B → A)
+    → ((a : A) → made (fields a) ≡ a) → ((a : A) → Fit a → Fit₂ (fields a)) → Tells Fit₂ Behind text → Tells Fit Behind (λ a. text (fields a))
+made-of fields made back fit parts =
+    record {
+      tell = λ a b x y p q s t e.
+          let same = parts .tell (fields a) (fields b) x y (fit a p) (fit b q) s t e in
+          (sym (back a) ∙ ap made (same .0) ∙ back b, same .1);
+    }
+
 -- ---- numbers
 
 digit-high : (byte : ℕ) → isDigit byte ≡ true → 48 ≤ byte
@@ -268,9 +278,16 @@ outcome-begins (outcome.Given verdict) = refl
 front : (a b x : List ℕ) → Begins a → Apart ((a ++ b) ++ x)
 front a b x e = begins-apart (a ++ b) x (begins-both a b e)
 
--- a message, from what its text has in this order
-abbrev messageOf : (ℕ × ℕ) × (Commands × (Statuses × ((ℕ × ℕ) × (Gap × Outcome)))) → Message
-messageOf f =
+message-tells : Tells MessageFits Apart messageText
+message-tells =
+    let closing = both gap-tells outcome-tells (λ o y s. begins-apart (outcomeText o) y (outcome-begins o)) in
+    let counts = both (keyed (textOf " data=") number) (keyed (textOf " rec=") number) (λ n y s. refl) in
+    let counted = both counts closing (λ r y s. front (gapText (r .0)) _ y (gap-begins (r .0))) in
+    let answered = both statuses-tells counted (λ r y s. refl) in
+    let asked = both commands-tells answered (λ r y s. front (statusesText (r .0)) _ y (statuses-begins (r .0))) in
+    made-of
+    (λ (m : Message). ((m .time .0, m .bus), (m .commands, (m .statuses, ((m .words, m .records), (m .gap, m .outcome))))))
+    (λ f.
     record {
       bus = f .0 .1;
       time = record { 0 = f .0 .0 };
@@ -280,58 +297,28 @@ messageOf f =
       records = f .1 .1 .1 .0 .1;
       gap = f .1 .1 .1 .1 .0;
       outcome = f .1 .1 .1 .1 .1;
-    }
-
-message-tells : Tells MessageFits Apart messageText
-message-tells =
-    let closing = both gap-tells outcome-tells (λ o y s. begins-apart (outcomeText o) y (outcome-begins o)) in
-    let counts = both (keyed (textOf " data=") number) (keyed (textOf " rec=") number) (λ n y s. refl) in
-    let counted = both counts closing (λ r y s. front (gapText (r .0)) (outcomeText (r .1)) y (gap-begins (r .0))) in
-    let answered = both statuses-tells counted (λ r y s. refl) in
-    let asked =
-    both commands-tells answered
-    (λ r y s. front (statusesText (r .0)) (countsText (r .1 .0 .0) (r .1 .0 .1) ++ (gapText (r .1 .1 .0) ++ outcomeText (r .1 .1 .1))) y (statuses-begins (r .0))) in
-    let parts = both (begin-tells {Behind = Any}) (keyed (textOf " msg cmd=") asked) (λ r y s. tt) in
-    record {
-      tell = λ m n x y p q s t e.
-          let fields : Message → (ℕ × ℕ) × (Commands × (Statuses × ((ℕ × ℕ) × (Gap × Outcome)))) = λ o. ((o .time .0, o .bus), (o .commands, (o .statuses, ((o .words, o .records), (o .gap, o .outcome))))) in
-          let same =
-          parts .tell (fields m) (fields n) x y
-          ((p .time, p .bus), (p .commands, (p .statuses, ((p .words, p .records), (p .gap, p .outcome)))))
-          ((q .time, q .bus), (q .commands, (q .statuses, ((q .words, q .records), (q .gap, q .outcome)))))
-          s t e in
-          (ap messageOf (same .0), same .1);
-    }
-
--- a record, from what its text has in this order
-abbrev recordOf : (ℕ × ℕ) × (ℕ × (ℕ × (ℕ × ℕ))) → WordRecord
-recordOf f = record { time = record { 0 = f .0 .0 }; bus = f .0 .1; sync = f .1 .0; faults = f .1 .1 .0; word = f .1 .1 .1 .0; parity = f .1 .1 .1 .1 }
+    })
+    (λ m. refl {a = m})
+    (λ m p. ((p .time, p .bus), (p .commands, (p .statuses, ((p .words, p .records), (p .gap, p .outcome))))))
+    (both (begin-tells {Behind = Any}) (keyed (textOf " msg cmd=") asked) (λ r y s. tt))
 
 single-tells : Tells SingleFits Apart singleText
 single-tells =
     let heard = keyed (textOf " word=") (both (word {Behind = Any}) (keyed (textOf " parity=") number) (λ n y s. tt)) in
-    let judged = both (keyed (textOf " one sync=") number) (both (keyed (textOf " faults=") number) heard (λ r y s. refl)) (λ r y s. refl) in
-    let parts = both (begin-tells {Behind = Any}) judged (λ r y s. tt) in
-    record {
-      tell = λ m n x y p q s t e.
-          let fields : WordRecord → (ℕ × ℕ) × (ℕ × (ℕ × (ℕ × ℕ))) = λ r. ((r .time .0, r .bus), (r .sync, (r .faults, (r .word, r .parity)))) in
-          let same =
-          parts .tell (fields m) (fields n) x y
-          ((p .time, p .bus), (p .sync, (p .faults, (p .word, p .parity))))
-          ((q .time, q .bus), (q .sync, (q .faults, (q .word, q .parity))))
-          s t e in
-          (ap recordOf (same .0), same .1);
-    }
+    let judged = both (keyed (textOf " faults=") number) heard (λ r y s. refl) in
+    made-of
+    (λ (r : WordRecord). ((r .time .0, r .bus), (r .sync, (r .faults, (r .word, r .parity)))))
+    (λ f. record { time = record { 0 = f .0 .0 }; bus = f .0 .1; sync = f .1 .0; faults = f .1 .1 .0; word = f .1 .1 .1 .0; parity = f .1 .1 .1 .1 })
+    (λ r. refl {a = r})
+    (λ r p. ((p .time, p .bus), (p .sync, (p .faults, (p .word, p .parity)))))
+    (both (begin-tells {Behind = Any}) (both (keyed (textOf " one sync=") number) judged (λ r y s. refl)) (λ r y s. tt))
 
 -- "msg" is not "one"
 kinds-apart : {A : Type 0} (m : Message) (r : WordRecord) (x y : List ℕ) → MessageFits m → SingleFits r → messageText m ++ x ≡ singleText r ++ y → A
 kinds-apart m r x y p q e =
-    let message = textOf " msg cmd=" ++ (commandsText (m .commands) ++ (statusesText (m .statuses) ++ (countsText (m .words) (m .records) ++ (gapText (m .gap) ++ outcomeText (m .outcome))))) in
-    let single = numberText (textOf " one sync=") (r .sync)
-    ++ (numberText (textOf " faults=") (r .faults) ++ (textOf " word=" ++ (wordText (r .word) ++ numberText (textOf " parity=") (r .parity)))) in
     let same =
-    begin-tells {Behind = Any} .tell (m .time .0, m .bus) (r .time .0, r .bus) (message ++ x) (single ++ y) (p .time, p .bus) (q .time, q .bus) tt tt
-    (inner (beginText (m .time .0) (m .bus)) message x (beginText (r .time .0) (r .bus)) single y e) in
+    begin-tells {Behind = Any} .tell (m .time .0, m .bus) (r .time .0, r .bus) _ _ (p .time, p .bus) (q .time, q .bus) tt tt
+    (inner (beginText (m .time .0) (m .bus)) _ x (beginText (r .time .0) (r .bus)) _ y e) in
     absurd (omega (arith, ap (λ (l : List ℕ). getD l 1 32) (same .1)))
 
 -- what `-v` adds begins with a space
