@@ -1,5 +1,6 @@
 pub mod Choices
 pub mod Lines
+pub mod Fronts
 pub mod Signs
 pub mod Tellings
 pub mod Examples

@@ -1,14 +1,11 @@
 -- Signs only, and not too many: what holds of a text holds of two, one behind the other; of a number, of a word, and so of each line. Assumes nothing.
-use mathlib.Core.Path.{_≡_, refl, sym, ap, subst, _∙_}
+use mathlib.Core.Path.{_≡_, refl, ap}
 use mathlib.Core.Bool.{Bool, true, false, cond, not, _&&_, _||_}
-use Prim.Native.Nat.{ℕ, zero, suc, _+_, _/_, _%_, _^_, _≤_, _<_}
+use Prim.Native.Nat.{ℕ, zero, suc, _+_, _/_, _%_, _^_, _≤_}
 use native.Mathlib.Omega.{arith}
-use native.Mathlib.Decide.{decLe}
-use mathlib.Core.Logic.{dite}
 use mathlib.Core.List.{List, [], _∷_, _++_}
 use lib.Dec.{eqb, leb}
 use lib.ListN.{length, getD, length-append}
-use lib.Seq.{getD-append-add}
 use borrow.Author.Tests.{leb-true, le-leb, ne-eqb}
 use Rattle.words.specs.Words.{addressOf, subaddressOf, countOf, wordsOf, isTransmit, isBroadcast, isMode}
 use Rattle.words.proofs.Truth.{and-both, passes, passed}
@@ -26,33 +23,25 @@ use Rattle.monitor.specs.declared.entries.Entry.{Entry}
 use Rattle.monitor.specs.declared.entries.Entry.the-variants as entry
 use Rattle.salvage.specs.Machine.{isChanged}
 use Rattle.salvage.specs.declared.salvages.First.{First}
-use Rattle.salvage.specs.declared.salvages.Run.{Run}
-use Rattle.salvage.specs.declared.salvages.Totals.{Totals}
 use Rattle.lines.specs.Sinks.{digitOf, wordText, decimalIn, decimalText}
 use Rattle.lines.specs.Spells.{textOf, numberText, lineMost}
-use Rattle.lines.specs.Numbers.{isDigit, areDigits}
+use Rattle.lines.specs.Numbers.{isDigit}
 use Rattle.lines.proofs.Backs.{text-digits, text-length}
 use Rattle.lines.proofs.Losses.{line-kept}
-use Rattle.texts.specs.Entries.{busText, pairText, commandsText, statusesText, gapText, verdictName, outcomeText, messageText, singleText, addressText, directionText, kindText, fieldsText, allFieldsText, flawMark, flawText, flawsText, badText, addedText, entryText, lineOf, hasParityFlaw, hasManchesterFlaw, hasBitsFlaw, hasSyncFlaw}
+use Rattle.texts.specs.Entries.{busText, pairText, commandsText, statusesText, gapText, verdictName, outcomeText, messageText, singleText, addressText, directionText, kindText, fieldsText, allFieldsText, flawMark, flawText, flawsText, addedText, entryText, lineOf, hasParityFlaw, hasManchesterFlaw, hasBitsFlaw, hasSyncFlaw}
 use Rattle.texts.specs.Logs.{logEndText, logRefusedText}
 use Rattle.texts.specs.Saves.{firstText, runText, runLine, saveEndText}
-use Rattle.texts.specs.Theorems.{isPlain, EachText, LinePlain, LineShort, OneLineEnd, EachLineKept, Kept}
+use Rattle.texts.specs.Theorems.{areAll, isSign, isPlain, EachText, LinePlain, LineShort, OneLineEnd, EachLineKept, Kept}
 use Rattle.texts.proofs.Choices.{each-name}
+use Rattle.texts.proofs.Fronts.{digits-all, all-both, all-as}
 
 -- A text of so many signs at most.
 pub record Signs (most : ℕ) (text : List ℕ) : Type 0 where
   pub plain : isPlain text ≡ true
   pub short : length text ≤ most
 
-plain-both : (a b : List ℕ) → isPlain a ≡ true → isPlain b ≡ true → isPlain (a ++ b) ≡ true
-unfolding isPlain
-plain-both [] b p q = q
-plain-both (x ∷ a) b p q =
-    let parts = and-both (leb 32 x && not (eqb x 127)) (isPlain a) p in
-    rw (parts .0, plain-both a b (parts .1) q)
-
 both : {m n : ℕ} {a b : List ℕ} → Signs m a → Signs n b → Signs (m + n) (a ++ b)
-both {a = a} {b = b} s t = record { plain = plain-both a b (s .plain) (t .plain); short = simp length-append (omega (arith, s .short, t .short)) }
+both {a = a} {b = b} s t = record { plain = all-both isSign a b (s .plain) (t .plain); short = simp length-append (omega (arith, s .short, t .short)) }
 
 within : {m n : ℕ} {text : List ℕ} → Signs m text → leb m n ≡ true → Signs n text
 within {m = m} {n = n} s l = record { plain = s .plain; short = omega (arith, s .short, leb-true m n l) }
@@ -65,22 +54,19 @@ either : {n : ℕ} {a b : List ℕ} (test : Bool) → Signs n a → Signs n b �
 either true s t = s
 either false s t = t
 
-digits-plain : (text : List ℕ) → areDigits text ≡ true → isPlain text ≡ true
-unfolding isPlain areDigits
-digits-plain [] d = refl
-digits-plain (x ∷ text) d =
-    let parts = and-both (isDigit x) (areDigits text) d in
-    let ends = and-both (leb 48 x) (leb x 57) (parts .0) in
-    let low = leb-true 48 x (ends .0) in
-    let high = leb-true x 57 (ends .1) in
-    rw (le-leb 32 x (omega arith), ne-eqb x 127 (λ e. omega arith), digits-plain text (parts .1))
+digit-sign : (byte : ℕ) → isDigit byte ≡ true → isSign byte ≡ true
+digit-sign byte d =
+    let ends = and-both (leb 48 byte) (leb byte 57) d in
+    let low = leb-true 48 byte (ends .0) in
+    let high = leb-true byte 57 (ends .1) in
+    rw (le-leb 32 byte (omega arith), ne-eqb byte 127 (λ e. omega arith))
 
 number : (n : ℕ) → Signs 20 (decimalText n)
 unfolding decimalText
-number n = record { plain = digits-plain (decimalIn 20 n) (text-digits 20 n); short = text-length 20 n }
+number n = record { plain = all-as isDigit isSign digit-sign (decimalIn 20 n) (digits-all (decimalIn 20 n) (text-digits 20 n)); short = text-length 20 n }
 
 digit-plain : (n : ℕ) → isPlain (digitOf (n % 16) ∷ []) ≡ true
-unfolding isPlain digitOf passes
+unfolding areAll digitOf passes
 digit-plain n = passed 16 (λ (i : ℕ). isPlain (digitOf i ∷ [])) refl (n % 16) (omega arith)
 
 word : (w : ℕ) → Signs 4 (wordText w)
@@ -94,11 +80,11 @@ keyed key p n = both (literal key p) (number n)
 -- ---- the parts of a line
 
 bus-signs : (bus : ℕ) → Signs 2 (busText bus)
-unfolding busText isPlain
+unfolding busText areAll
 bus-signs bus = either (eqb bus 0) (literal (textOf " A") refl) (literal (textOf " B") refl)
 
 pair-signs : (first second : ℕ) → Signs 9 (pairText first second)
-unfolding isPlain
+unfolding areAll
 pair-signs first second = both (word first) (both (literal (textOf ",") refl) (word second))
 
 commands-signs : (c : Commands) → Signs 9 (commandsText c)
@@ -106,19 +92,19 @@ commands-signs (commands.One first) = within (word (first .0)) refl
 commands-signs (commands.Two first second) = pair-signs (first .0) (second .0)
 
 statuses-signs : (s : Statuses) → Signs 13 (statusesText s)
-unfolding isPlain
+unfolding areAll
 statuses-signs statuses.None = within (literal (textOf " st=-") refl) refl
 statuses-signs (statuses.One first) = within (both (literal (textOf " st=") refl) (word (first .0))) refl
 statuses-signs (statuses.Two first second) = both (literal (textOf " st=") refl) (pair-signs (first .0) (second .0))
 
 gap-signs : (g : Gap) → Signs 26 (gapText g)
-unfolding isPlain
+unfolding areAll
 gap-signs gap.None = within (literal (textOf " gap=-") refl) refl
 gap-signs (gap.Apart ticks) = within (keyed (textOf " gap=") refl (ticks .0)) refl
 gap-signs (gap.Overlap ticks) = keyed (textOf " gap=-") refl (ticks .0)
 
 name-signs : (n : ℕ) → Signs 12 (verdictName n)
-unfolding verdictName passes isPlain
+unfolding verdictName passes areAll
 name-signs n =
     record {
       plain = each-name isPlain refl refl n;
@@ -126,12 +112,12 @@ name-signs n =
     }
 
 outcome-signs : (o : Outcome) → Signs 41 (outcomeText o)
-unfolding isPlain
+unfolding areAll
 outcome-signs outcome.None = within (literal (textOf " verdict=- none") refl) refl
 outcome-signs (outcome.Given verdict) = both (keyed (textOf " verdict=") refl (verdict .0)) (name-signs (verdict .0))
 
 message-signs : (m : Message) → Signs 171 (messageText m)
-unfolding isPlain
+unfolding areAll
 message-signs m =
     both (both (number (m .time .0)) (bus-signs (m .bus)))
     (both (literal (textOf " msg cmd=") refl)
@@ -140,7 +126,7 @@ message-signs m =
     (both (both (keyed (textOf " data=") refl (m .words)) (keyed (textOf " rec=") refl (m .records))) (both (gap-signs (m .gap)) (outcome-signs (m .outcome)))))))
 
 single-signs : (r : WordRecord) → Signs 118 (singleText r)
-unfolding isPlain
+unfolding areAll
 single-signs r =
     both (both (number (r .time .0)) (bus-signs (r .bus)))
     (both (keyed (textOf " one sync=") refl (r .sync))
@@ -150,7 +136,7 @@ single-signs r =
 -- ---- what `-v` adds
 
 fields-signs : (begin : List ℕ) (command : ℕ) → Signs 4 begin → Signs 84 (fieldsText begin command)
-unfolding addressText directionText kindText isPlain
+unfolding addressText directionText kindText areAll
 fields-signs begin command s =
     both s
     (both (either (isBroadcast command) (within (literal (textOf "all") refl) refl) (keyed (textOf "rt") refl (addressOf command)))
@@ -159,19 +145,19 @@ fields-signs begin command s =
     (both (keyed (textOf ",sa") refl (subaddressOf command)) (keyed (textOf ",count") refl (wordsOf command))))))
 
 all-fields-signs : (c : Commands) → Signs 168 (allFieldsText c)
-unfolding isPlain
+unfolding areAll
 all-fields-signs (commands.One first) = within (fields-signs (textOf " c1=") (first .0) (literal (textOf " c1=") refl)) refl
 all-fields-signs (commands.Two first second) =
     both (fields-signs (textOf " c1=") (first .0) (literal (textOf " c1=") refl)) (fields-signs (textOf " c2=") (second .0) (literal (textOf " c2=") refl))
 
 flaw-signs : {n : ℕ} (more bad : Bool) {name : List ℕ} → Signs n name → Signs (1 + n) (flawText more bad name)
-unfolding flawText flawMark isPlain
+unfolding flawText flawMark areAll
 flaw-signs true true s = both (literal (44 ∷ []) refl) s
 flaw-signs false true s = both (literal (61 ∷ []) refl) s
 flaw-signs more false s = record { plain = refl; short = omega arith }
 
 flaws-signs : (parity manchester bits sync : Bool) → Signs 34 (flawsText parity manchester bits sync)
-unfolding flawsText isPlain
+unfolding flawsText areAll
 flaws-signs parity manchester bits sync =
     both (literal (textOf " bad") refl)
     (both (flaw-signs false parity (literal (textOf "parity") refl))
@@ -181,7 +167,7 @@ flaws-signs parity manchester bits sync =
     (flaw-signs false (not (parity || manchester || bits || sync)) (literal (textOf "-") refl))))))
 
 added-signs : {n : ℕ} (added : Bool) {text : List ℕ} → Signs n text → Signs n (addedText added text)
-unfolding isPlain
+unfolding areAll
 added-signs true s = s
 added-signs false s = record { plain = refl; short = omega arith }
 
@@ -193,11 +179,11 @@ entry-signs added (entry.Single r) =
     within (both (single-signs r) (added-signs added (flaws-signs (hasParityFlaw r) (hasManchesterFlaw r) (hasBitsFlaw r) (hasSyncFlaw r)))) refl
 
 first-signs : (first : First) → Signs 7 (firstText first)
-unfolding firstText isPlain
+unfolding firstText areAll
 first-signs first = either (isChanged first) (literal (textOf "changed") refl) (within (literal (textOf "kept") refl) refl)
 
 each-signs : EachText (Signs 339)
-unfolding isPlain
+unfolding areAll
 each-signs =
     record {
       entry = entry-signs;
@@ -234,14 +220,14 @@ pub line-short : LineShort
 line-short = each-as (λ text s. simp length-append (omega (arith, s .short))) each-signs
 
 one-end : (text : List ℕ) → isPlain text ≡ true → (place : ℕ) → getD (lineOf text) place 0 ≡ 10 → place ≡ length text
-unfolding isPlain
+unfolding areAll
 one-end [] p zero e = refl
 one-end [] p (suc place) e = omega (arith, e)
 one-end (x ∷ text) p zero e =
-    let parts = and-both (leb 32 x && not (eqb x 127)) (isPlain text) p in
-    let low = leb-true 32 x (and-both (leb 32 x) (not (eqb x 127)) (parts .0) .0) in
+    let sign = and-both (isSign x) (isPlain text) p .0 in
+    let low = leb-true 32 x (and-both (leb 32 x) (not (eqb x 127)) sign .0) in
     omega (arith, e, low)
-one-end (x ∷ text) p (suc place) e = ap suc (one-end text (and-both (leb 32 x && not (eqb x 127)) (isPlain text) p .1) place e)
+one-end (x ∷ text) p (suc place) e = ap suc (one-end text (and-both (isSign x) (isPlain text) p .1) place e)
 
 pub one-line-end : OneLineEnd
 one-line-end = each-as one-end line-plain

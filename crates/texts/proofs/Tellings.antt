@@ -2,14 +2,14 @@
 -- digit follows, and what follows a part begins with a space. Assumes nothing.
 use mathlib.Core.Path.{_≡_, refl, sym, ap, ap₂, _∙_}
 use mathlib.Core.Bool.{Bool, true, false, cond, not, true≢false}
-use Prim.Native.Nat.{ℕ, zero, suc, _+_, _/_, _%_, _^_, _≤_, _<_}
+use Prim.Native.Nat.{ℕ, _/_, _%_, _^_, _≤_}
 use native.Mathlib.Omega.{arith}
 use mathlib.Core.List.{List, [], _∷_, _++_, append-assoc}
-use lib.Dec.{eqb, leb}
+use lib.Dec.{eqb}
 use lib.ListN.{length, getD, take, drop}
 use lib.Seq.{drop-append-seam}
-use borrow.Author.Tests.{leb-true, eq-eqb, eqb-true, eqb-false}
-use Rattle.words.proofs.Truth.{and-both, passes, passed}
+use borrow.Author.Tests.{eq-eqb, eqb-true, eqb-false}
+use Rattle.words.proofs.Truth.{passes, passed}
 use Rattle.records.specs.declared.forms.WordRecord.{WordRecord}
 use Rattle.monitor.specs.declared.entries.Commands.{Commands}
 use Rattle.monitor.specs.declared.entries.Commands.the-variants as commands
@@ -23,13 +23,15 @@ use Rattle.monitor.specs.declared.entries.Message.{Message}
 use Rattle.monitor.specs.declared.entries.Entry.{Entry}
 use Rattle.monitor.specs.declared.entries.Entry.the-variants as entry
 use Rattle.lines.specs.declared.numbers.Number.the-variants.{Is}
-use Rattle.lines.specs.Sinks.{digitOf, wordText, decimalIn, decimalText}
-use Rattle.lines.specs.Spells.{textOf, numberText}
-use Rattle.lines.specs.Numbers.{isDigit, areDigits, numberRead, hexadecimalRead}
+use Rattle.lines.specs.Sinks.{digitOf, wordText, decimalText}
+use Rattle.lines.specs.Spells.{textOf}
+use Rattle.lines.specs.Numbers.{isDigit, numberRead, hexadecimalRead}
 use Rattle.lines.proofs.Backs.{text-digits, text-some, decimal-back, word-back}
-use Rattle.texts.specs.Entries.{busText, beginText, pairText, commandsText, statusesText, gapText, verdictName, outcomeText, countsText, messageText, singleText, allFieldsText, flawsText, badText, addedText, entryText}
-use Rattle.texts.specs.Theorems.{Number, Word, CommandsFit, StatusesFit, GapFits, OutcomeFits, MessageFits, SingleFits, Fits, TextTells}
+use Rattle.texts.specs.Entries.{busText, beginText, pairText, commandsText, statusesText, gapText, verdictName, outcomeText, messageText, singleText, allFieldsText, flawsText, badText, addedText, entryText, lineOf}
+use Rattle.texts.specs.Theorems.{Number, Word, CommandsFit, StatusesFit, GapFits, OutcomeFits, MessageFits, SingleFits, TextTells, areAll, isSign, isPlain, linesOf, LinesTell}
 use Rattle.texts.proofs.Choices.{each-name}
+use Rattle.texts.proofs.Fronts.{digits-all, all-begins, front-tells}
+use Rattle.texts.proofs.Signs.{line-plain}
 
 pub record Tells {A : Type 0} (Fit : A → Type 0) (Behind : List ℕ → Type 0) (text : A → List ℕ) : Type 0 where
   pub tell : (a b : A) (x y : List ℕ) → Fit a → Fit b → Behind x → Behind y → text a ++ x ≡ text b ++ y → (a ≡ b) × (x ≡ y)
@@ -91,23 +93,12 @@ made-of fields made back fit parts =
 
 -- ---- numbers
 
-digit-high : (byte : ℕ) → isDigit byte ≡ true → 48 ≤ byte
-digit-high byte d = leb-true 48 byte (and-both (leb 48 byte) (leb byte 57) d .0)
+no-digit : (x : List ℕ) → Apart x → isDigit (getD x 0 32) ≡ false
+no-digit x s = ap isDigit s
 
-digits-end : (a b x y : List ℕ) → areDigits a ≡ true → areDigits b ≡ true → Apart x → Apart y → a ++ x ≡ b ++ y → (a ≡ b) × (x ≡ y)
-unfolding areDigits
-digits-end [] [] x y p q s t e = (refl, e)
-digits-end [] (c ∷ b) x y p q s t e =
-    let high = digit-high c (and-both (isDigit c) (areDigits b) q .0) in
-    let same : c ≡ 32 = sym (ap (λ (l : List ℕ). getD l 0 32) e) ∙ s in
-    absurd (omega (arith, high, same))
-digits-end (c ∷ a) [] x y p q s t e =
-    let high = digit-high c (and-both (isDigit c) (areDigits a) p .0) in
-    let same : c ≡ 32 = ap (λ (l : List ℕ). getD l 0 32) e ∙ t in
-    absurd (omega (arith, high, same))
-digits-end (c ∷ a) (d ∷ b) x y p q s t e =
-    let rest = digits-end a b x y (and-both (isDigit c) (areDigits a) p .1) (and-both (isDigit d) (areDigits b) q .1) s t (ap (drop 1) e) in
-    (ap₂ (λ (n : ℕ) (l : List ℕ). n ∷ l) (ap (λ (l : List ℕ). getD l 0 32) e) (rest .0), rest .1)
+all-digits : (n : ℕ) → areAll isDigit (decimalText n) ≡ true
+unfolding decimalText
+all-digits n = digits-all (decimalText n) (text-digits 20 n)
 
 number-same : (m n : ℕ) → Number m → Number n → decimalText m ≡ decimalText n → m ≡ n
 number-same m n p q e =
@@ -115,24 +106,18 @@ number-same m n p q e =
     cc
 
 number : Tells Number Apart decimalText
-unfolding decimalText
 number =
     record {
       tell = λ m n x y p q s t e.
-          let parts = digits-end (decimalText m) (decimalText n) x y (text-digits 20 m) (text-digits 20 n) s t e in
+          let parts = front-tells isDigit (decimalText m) (decimalText n) x y (all-digits m) (all-digits n) (no-digit x s) (no-digit y t) e in
           (number-same m n p q (parts .0), parts .1);
     }
 
 -- what begins with no digit is no number
-number-begins : (text x : List ℕ) → areDigits text ≡ true → 1 ≤ length text → isDigit (getD (text ++ x) 0 32) ≡ true
-unfolding areDigits
-number-begins [] x d l = absurd (omega (arith, l))
-number-begins (c ∷ text) x d l = and-both (isDigit c) (areDigits text) d .0
-
 no-number : {A : Type 0} (n : ℕ) (x y : List ℕ) → isDigit (getD x 0 32) ≡ false → x ≡ decimalText n ++ y → A
 unfolding decimalText
 no-number n x y d e =
-    absurd (true≢false (sym (number-begins (decimalText n) y (text-digits 20 n) (text-some 19 n)) ∙ sym (ap (λ (l : List ℕ). isDigit (getD l 0 32)) e) ∙ d))
+    absurd (true≢false (sym (all-begins isDigit (decimalText n) y (all-digits n) (text-some 19 n)) ∙ sym (ap (λ (l : List ℕ). isDigit (getD l 0 32)) e) ∙ d))
 
 -- ---- words
 
@@ -216,9 +201,6 @@ statuses-tells = record { tell = by }
     by statuses.None (statuses.Two b d) x y p q s t e = no-word (b .0) x (textOf "," ++ wordText (d .0) ++ y) (ap (drop 4) e)
     by (statuses.One a) statuses.None x y p q s t e = no-word (a .0) y x (sym (ap (drop 4) e))
     by (statuses.Two a c) statuses.None x y p q s t e = no-word (a .0) y (textOf "," ++ wordText (c .0) ++ x) (sym (ap (drop 4) e))
-
-no-digit : (x : List ℕ) → Apart x → isDigit (getD x 0 32) ≡ false
-no-digit x s = ap isDigit s
 
 gap-tells : Tells GapFits Apart gapText
 gap-tells = record { tell = by }
@@ -350,3 +332,24 @@ text-tells added other (entry.Single m) (entry.Single n) p q e =
     e .0)
 text-tells added other (entry.Message m) (entry.Single r) p q e = kinds-apart m r (addedText added (allFieldsText (m .commands))) (addedText other (badText r)) p q e
 text-tells added other (entry.Single r) (entry.Message m) p q e = kinds-apart m r (addedText other (allFieldsText (m .commands))) (addedText added (badText r)) q p (sym e)
+
+-- ---- lines behind one another
+
+-- a line ends where it has its first line end
+line-tells : (a b x y : List ℕ) → isPlain a ≡ true → isPlain b ≡ true → lineOf a ++ x ≡ lineOf b ++ y → (a ≡ b) × (x ≡ y)
+line-tells a b x y p q e =
+    let same = front-tells isSign a b (10 ∷ x) (10 ∷ y) p q refl refl (inner a (10 ∷ []) x b (10 ∷ []) y e) in
+    (same .0, ap (drop 1) (same .1))
+
+no-line : {A : Type 0} (a x : List ℕ) → [] ≡ lineOf a ++ x → A
+no-line [] x e = absurd (omega (arith, ap length e))
+no-line (c ∷ a) x e = absurd (omega (arith, ap length e))
+
+pub lines-tell : LinesTell
+lines-tell added other [] [] p q e = refl
+lines-tell added other [] (f ∷ fs) p q e = no-line (entryText other f) (linesOf other fs) e
+lines-tell added other (g ∷ gs) [] p q e = no-line (entryText added g) (linesOf added gs) (sym e)
+lines-tell added other (g ∷ gs) (f ∷ fs) p q e =
+    let same =
+    line-tells (entryText added g) (entryText other f) (linesOf added gs) (linesOf other fs) (line-plain .entry added g) (line-plain .entry other f) e in
+    ap₂ (λ (a : Entry) (l : List Entry). a ∷ l) (text-tells added other g f (p .0) (q .0) (same .0)) (lines-tell added other gs fs (p .1) (q .1) (same .1))

@@ -5,7 +5,6 @@ use mathlib.Core.Bool.{Bool, true, false, not, _&&_}
 use mathlib.Core.List.{List, [], _∷_, _++_}
 use lib.Dec.{eqb, leb}
 use lib.ListN.{length, getD, take}
-use Rattle.words.specs.declared.times.Ticks.{Ticks}
 use Rattle.records.specs.declared.forms.WordRecord.{WordRecord}
 use Rattle.monitor.specs.declared.entries.Commands.{Commands}
 use Rattle.monitor.specs.declared.entries.Commands.the-variants as commands
@@ -80,12 +79,32 @@ Fits (entry.Single r) = SingleFits r
 abbrev pub TextTells : Type 0
 TextTells = (added other : Bool) (e f : Entry) → Fits e → Fits f → entryText added e ≡ entryText other f → e ≡ f
 
+-- The lines of entries, one behind the other.
+abbrev pub linesOf : Bool → List Entry → List ℕ
+linesOf added [] = []
+linesOf added (e ∷ es) = lineOf (entryText added e) ++ linesOf added es
+
+abbrev pub AllFit : List Entry → Type 0
+AllFit [] = Unit {0}
+AllFit (e ∷ es) = Fits e × AllFit es
+
+-- So the lines tell which entries they list, and in which order: lines-tell
+abbrev pub LinesTell : Type 0
+LinesTell = (added other : Bool) (es fs : List Entry) → AllFit es → AllFit fs → linesOf added es ≡ linesOf other fs → es ≡ fs
+
 -- ---- one line each
 
--- Each byte is a sign: none is below a space, and none is 7Fh.
-unfoldable pub isPlain : List ℕ → Bool
-isPlain [] = true
-isPlain (byte ∷ bytes) = (leb 32 byte && not (eqb byte 127)) && isPlain bytes
+-- Each byte passes a test.
+unfoldable pub areAll : (ℕ → Bool) → List ℕ → Bool
+areAll test [] = true
+areAll test (byte ∷ bytes) = test byte && areAll test bytes
+
+-- A sign is not below a space, and not 7Fh.
+abbrev pub isSign : ℕ → Bool
+isSign byte = leb 32 byte && not (eqb byte 127)
+
+abbrev pub isPlain : List ℕ → Bool
+isPlain text = areAll isSign text
 
 -- Something holds of the text of every line.
 pub record EachText (Holds : List ℕ → Type 0) : Type 0 where
