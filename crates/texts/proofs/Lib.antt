@@ -3,4 +3,5 @@ pub mod Lines
 pub mod Fronts
 pub mod Signs
 pub mod Tellings
+pub mod Validity
 pub mod Examples

@@ -5,6 +5,8 @@ use mathlib.Core.Bool.{Bool, true, false, not, _&&_}
 use mathlib.Core.List.{List, [], _∷_, _++_}
 use lib.Dec.{eqb, leb}
 use lib.ListN.{length, getD, take}
+use Rattle.words.specs.Words.{isValid}
+use Rattle.records.specs.Records.{inRange}
 use Rattle.records.specs.declared.forms.WordRecord.{WordRecord}
 use Rattle.monitor.specs.declared.entries.Commands.{Commands}
 use Rattle.monitor.specs.declared.entries.Commands.the-variants as commands
@@ -22,7 +24,7 @@ use Rattle.salvage.specs.declared.salvages.Run.{Run}
 use Rattle.salvage.specs.declared.salvages.Totals.{Totals}
 use Rattle.lines.specs.Sinks.{blockBytes}
 use Rattle.lines.specs.Spells.{textOf, lineMost, placeAfterLine, blockAfterLine, goesOutBefore}
-use Rattle.texts.specs.Entries.{entryText, lineOf}
+use Rattle.texts.specs.Entries.{badText, entryText, lineOf}
 use Rattle.texts.specs.Logs.{logEndText, logRefusedText}
 use Rattle.texts.specs.Saves.{runText, runLine, saveEndText}
 
@@ -206,3 +208,10 @@ pub record AddedExamples : Type 0 where
   pub between-two : entryText true betweenTwo ≡ entryText false betweenTwo ++ textOf " c1=rt5,receive,sa2,count2 c2=rt4,transmit,sa3,count2"
   pub outside : entryText true outside ≡ entryText false outside ++ textOf " bad=bits"
   pub impossible : entryText true impossible ≡ entryText false impossible ++ textOf " c1=all,transmit,sa2,count2"
+
+-- "and ` bad=-` where the word is valid": there and nowhere else: valid-told
+abbrev pub ValidTold : Type 0
+ValidTold =
+    (r : WordRecord) → inRange r ≡ true
+    → (isValid (r .sync) (r .faults) (r .word) (r .parity) ≡ true → badText r ≡ textOf " bad=-")
+    × (badText r ≡ textOf " bad=-" → isValid (r .sync) (r .faults) (r .word) (r .parity) ≡ true)
