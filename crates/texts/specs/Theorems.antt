@@ -6,8 +6,11 @@ use mathlib.Core.List.{List, [], _∷_, _++_}
 use lib.Dec.{eqb, leb}
 use lib.ListN.{length, getD, take}
 use Rattle.words.specs.Words.{isValid}
+use Rattle.words.specs.declared.times.Moment.{Moment}
 use Rattle.records.specs.Records.{inRange}
+use Rattle.records.specs.Theorems as records
 use Rattle.records.specs.declared.forms.WordRecord.{WordRecord}
+use Rattle.monitor.specs.Entries.{entryOf}
 use Rattle.monitor.specs.declared.entries.Commands.{Commands}
 use Rattle.monitor.specs.declared.entries.Commands.the-variants as commands
 use Rattle.monitor.specs.declared.entries.Statuses.{Statuses}
@@ -76,6 +79,12 @@ pub record SingleFits (r : WordRecord) : Type 0 where
 abbrev pub Fits : Entry → Type 0
 Fits (entry.Message m) = MessageFits m
 Fits (entry.Single r) = SingleFits r
+
+-- An entry has this of its records, which were read, and which are fewer than 2^64: entry-fits
+abbrev pub EntryFits : Type 0
+EntryFits =
+    (first : WordRecord) (rest : List WordRecord) (until : Moment) → records.AllFit (first ∷ rest) → length (first ∷ rest) < 2 ^ 64
+    → Fits (entryOf first rest until)
 
 -- Two entries with one text are the same entry, with or without what `-v` adds: no line leaves out or blurs anything that an entry has: text-tells
 abbrev pub TextTells : Type 0
