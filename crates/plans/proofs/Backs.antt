@@ -1,23 +1,21 @@
 -- A line that is made of parts, one space apart, is read as these parts; and the parts of a line of a plan say what was written. Assumes nothing.
-use mathlib.Core.Path.{_≡_, refl, sym, ap, ap₂, _∙_}
-use mathlib.Core.Bool.{Bool, true, false, not, cond, _&&_, _||_}
-use Prim.Native.Nat.{ℕ, zero, suc, _+_, _-_, _/_, _%_, _^_, _≤_, _<_}
+use mathlib.Core.Path.{_≡_, refl, sym, ap, _∙_}
+use mathlib.Core.Bool.{Bool, true, false, not, cond, _&&_}
+use Prim.Native.Nat.{ℕ, _+_, _-_, _/_, _%_, _^_, _≤_, _<_}
 use native.Mathlib.Omega.{arith}
-use mathlib.Core.Logic.{_⊎_, inl, inr, ⊎-elim}
+use mathlib.Core.Logic.{_⊎_, ⊎-elim}
 use mathlib.Core.List.{List, [], _∷_, _++_, append-nil, append-assoc}
 use lib.Dec.{leb, ltb, eqb}
 use lib.ListN.{length, length-append}
-use borrow.Author.Tests.{lt-ltb, le-ltb, le-leb, lt-leb, eq-eqb, ne-eqb, leb-true, not-true}
+use borrow.Author.Tests.{lt-ltb, le-ltb, le-leb, ne-eqb, leb-true, not-true}
 use Rattle.words.proofs.Truth.{and-both, passes, passed}
 use Rattle.words.specs.declared.commands.CommandWord.{CommandWord}
-use Rattle.lines.specs.declared.numbers.Number.{Number}
 use Rattle.lines.specs.declared.numbers.Number.the-variants.{Is, None}
-use Rattle.lines.specs.Numbers.{isDigit, areDigits, spelledAfter, numberAfter, numberRead, digitValue, hexadecimalAfter, hexadecimalRead}
+use Rattle.lines.specs.Numbers.{isDigit, areDigits, spelledAfter, numberAfter, numberRead, hexadecimalRead}
 use Rattle.lines.specs.Sinks.{digitOf, wordText, decimalIn, decimalText}
 use Rattle.lines.specs.Names.{sameText}
 use Rattle.lines.proofs.Backs.{decimal-back, word-back}
 use Rattle.schedule.specs.declared.messages.Message.{Message}
-use Rattle.plans.specs.declared.entries.Entry.{Entry}
 use Rattle.plans.specs.declared.entries.Entry.the-variants.{Capacities, Capacity, Placed}
 use Rattle.plans.specs.Parts.{beforeRemark, isControl, hasControl, beforeControl, apart, tightFrom, tight, splitFrom, partsOf}
 use Rattle.plans.specs.Entries.{capacityText, capacitiesOf, capacityOf, capacityEntry, messageText, wordOf, isNumber, isCommand, placedOf, messageWith, singleOf, pairOf, messageEntry, partsEntry, saidOf, entryOf}

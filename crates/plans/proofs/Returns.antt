@@ -1,19 +1,22 @@
 -- What is written of a schedule, read, is the schedule: line by line, then the tables that the lines fill. Assumes nothing.
 use mathlib.Core.Path.{_≡_, refl, sym, ap, ap₂, _∙_}
-use mathlib.Core.Bool.{Bool, true, false, cond, _&&_}
-use Prim.Native.Nat.{ℕ, zero, suc, _+_, _^_, _≤_, _<_}
+use mathlib.Core.Bool.{Bool, true, false, not, cond, _&&_}
+use Prim.Native.Nat.{ℕ, suc, _+_, _^_, _≤_, _<_}
 use native.Mathlib.Numerals.{add-one}
 use native.Mathlib.Omega.{arith}
 use mathlib.Core.List.{List, [], _∷_, _++_, map, append-nil, append-assoc}
 use lib.Dec.{eqb, leb}
-use lib.ListN.{length, take, drop, getD, set, replicate, length-replicate, length-set, length-take, drop-of-length-le}
-use lib.Seq.{sets, sets-eq, length-sets, take-append-seam, length-take-le, take-length, drop-length}
+use lib.ListN.{length, take, drop, getD, set, replicate, drop-of-length-le}
+use lib.Seq.{sets, sets-eq, take-append-seam, length-take-le}
 use borrow.Author.Tests.{le-leb, eqb-true}
 use Rattle.words.proofs.Truth.{and-both}
 use Rattle.lines.specs.Sinks.{decimalText}
 use Rattle.schedule.specs.declared.messages.Message.{Message}
 use Rattle.schedule.specs.declared.schedules.Schedule.{Schedule}
-use Rattle.schedule.specs.Messages.{messagesIn, messagesMost, emptySchedule, countAfter, withOf}
+use Rattle.words.specs.Refusals.{refusedSchedule}
+use Rattle.schedule.specs.declared.schedules.Outcome.{Outcome}
+use Rattle.schedule.specs.declared.schedules.Outcome.the-variants.{Refused}
+use Rattle.schedule.specs.Messages.{messagesIn, messagesMost, emptySchedule, countAfter, withOf, areFit, isRefused}
 use Rattle.schedule.specs.Frames as frames
 use Rattle.plans.specs.declared.entries.Fault.the-variants as fault
 use Rattle.plans.specs.declared.entries.Entry.{Entry}
@@ -23,7 +26,7 @@ use Rattle.plans.specs.Parts.{beforeRemark, beforeControl, hasControl, t
 use Rattle.plans.specs.Entries.{capacityText, partsEntry, saidOf, entryOf}
 use Rattle.plans.specs.Drafts.{oneMore, emptyDraft, withCapacities, afterEntry, isFault, linesFrom, draftFrom, planOf}
 use Rattle.plans.specs.Texts.{lineText, areAll, capacityLines, capacitiesText, messageParts, messageLines, planText}
-use Rattle.plans.specs.Theorems.{Sayable, AllSayable, AllFit, Writable, SaidBack, PlanReadBack}
+use Rattle.plans.specs.Theorems.{Sayable, AllSayable, AllFit, Writable, SaidBack, PlanReadBack, CheckedAgain}
 use Rattle.plans.proofs.Wholes.{draft-goes, last-line}
 use Rattle.plans.proofs.Backs.{Part, AllParts, bareText, line-is, line-says, decimal-part, capacity-part, says-all, says-one, says-message, all-short, one-short, message-short, message-all}
 
@@ -336,3 +339,40 @@ module _ (schedule : Schedule) (firsts capacities : List ℕ) (w : Writable sche
 
 pub plan-read-back : PlanReadBack
 plan-read-back schedule firsts capacities w = rw (read-whole schedule firsts capacities w) (back schedule firsts capacities w)
+
+-- ---- the check
+
+-- first frames behind those of the messages are not looked at
+placed-front : (messages : List Message) (firsts : List ℕ) → frames.placedOf messages firsts ≡ frames.placedOf messages (take (length messages) firsts)
+unfolding frames.placedOf
+placed-front [] firsts = refl
+placed-front (message ∷ messages) [] = refl
+placed-front (message ∷ messages) (first ∷ firsts) =
+    ap (λ (t : List frames.Placed). record { message = message; start = first } ∷ t) (placed-front messages firsts)
+
+-- what the check looks at
+judged : ℕ → List Message → List frames.Placed → List ℕ → Outcome
+judged count messages placed capacities =
+    cond (not (leb count messagesMost && areFit messages)) (Refused (record { 0 = refusedSchedule })) (frames.outcomeOf placed capacities)
+
+check-looks : (schedule : Schedule) (firsts capacities : List ℕ)
+    → frames.checkOf schedule firsts capacities
+    ≡ judged (schedule .count) (messagesIn schedule) (frames.placedOf (messagesIn schedule) (take (length (messagesIn schedule)) firsts)) capacities
+unfolding judged frames.checkOf isRefused
+check-looks schedule firsts capacities =
+    ap (λ (t : List frames.Placed). judged (schedule .count) (messagesIn schedule) t capacities) (placed-front (messagesIn schedule) firsts)
+
+module _ (schedule : Schedule) (firsts capacities : List ℕ) (d : Draft) (many : length (messagesIn schedule) ≡ schedule .count) (b : SaidBack schedule firsts capacities d) where
+  same-check : frames.checkOf (d .schedule) (d .firsts) (d .capacities) ≡ frames.checkOf schedule firsts capacities
+  same-check =
+      let starts : take (length (messagesIn (d .schedule))) (d .firsts) ≡ take (length (messagesIn schedule)) firsts =
+      ap (λ (n : ℕ). take n (d .firsts)) (ap length (b .messages) ∙ many) ∙ b .first-frames ∙ ap (λ (n : ℕ). take n firsts) (sym many) in
+      check-looks (d .schedule) (d .firsts) (d .capacities)
+      ∙ ap (λ (n : ℕ). judged n (messagesIn (d .schedule)) (frames.placedOf (messagesIn (d .schedule)) (take (length (messagesIn (d .schedule))) (d .firsts))) (d .capacities)) (b .count)
+      ∙ ap₂ (λ (t : List ℕ) (c : List ℕ). judged (schedule .count) (messagesIn (d .schedule)) (frames.placedOf (messagesIn (d .schedule)) t) c) starts (b .frames)
+      ∙ ap (λ (ms : List Message). judged (schedule .count) ms (frames.placedOf ms (take (length (messagesIn schedule)) firsts)) capacities) (b .messages)
+      ∙ sym (check-looks schedule firsts capacities)
+
+pub checked-again : CheckedAgain
+checked-again schedule firsts capacities w =
+    same-check schedule firsts capacities (planOf (planText schedule firsts capacities)) (as-many-messages schedule firsts capacities w) (plan-read-back schedule firsts capacities w)

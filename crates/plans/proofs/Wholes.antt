@@ -1,5 +1,5 @@
 -- The machine and the plan of a text: a line that is gathered says what the definition says of all its bytes, and chunks do not matter. Assumes nothing.
-use mathlib.Core.Path.{_≡_, refl, sym, ap, ap₂, _∙_}
+use mathlib.Core.Path.{_≡_, refl, sym, ap, _∙_}
 use mathlib.Core.Bool.{Bool, true, false, not, cond, _&&_, _||_}
 use Prim.Native.Nat.{ℕ, zero, suc, _+_, _-_, _≤_, _<_}
 use native.Mathlib.Nat.{lt-of-not-le}
@@ -9,9 +9,9 @@ use native.Mathlib.Decide.{decLe}
 use mathlib.Core.Logic.{_⊎_, inl, inr, ⊎-elim, dite}
 use mathlib.Core.List.{List, [], _∷_, _++_, append-nil, append-assoc}
 use lib.Dec.{leb, ltb, eqb}
-use lib.ListN.{length, take, drop, set, replicate, length-append, length-set, length-take, length-replicate}
+use lib.ListN.{length, take, set, length-append, length-set, length-replicate}
 use lib.Seq.{take-suc-set, length-take-le}
-use borrow.Author.Tests.{lt-ltb, le-ltb, le-leb, eq-eqb, ne-eqb, eqb-true, eqb-false, ltb-true, ltb-false}
+use borrow.Author.Tests.{lt-ltb, le-ltb, le-leb, ne-eqb, eqb-true}
 use Rattle.lines.specs.Parts.{betweenOf}
 use Rattle.plans.specs.declared.entries.Fault.the-variants as fault
 use Rattle.plans.specs.declared.entries.Entry.{Entry}
@@ -20,10 +20,10 @@ use Rattle.plans.specs.declared.gatherings.Kept.{Kept}
 use Rattle.plans.specs.declared.gatherings.Gathering.{Gathering}
 use Rattle.plans.specs.declared.drafts.Draft.{Draft}
 use Rattle.plans.specs.declared.readings.Reading.{Reading}
-use Rattle.plans.specs.Parts.{beforeRemark, isControl, hasControl, beforeControl, apart, tightFrom, tight, partsOf}
+use Rattle.plans.specs.Parts.{beforeRemark, isControl, hasControl, beforeControl, apart, tightFrom, partsOf}
 use Rattle.plans.specs.Entries.{lineMost, partsEntry, saidOf, entryOf}
 use Rattle.plans.specs.Drafts.{oneMore, emptyDraft, afterEntry, isFault, linesFrom, draftFrom, planOf}
-use Rattle.plans.specs.Machine.{keptNone, keptWith, keptText, gatheringAt, afterSpace, inRemark, withSpace, withByte, gathered, isBadLine, gatheredEntry, readingWith, startOf, lineTaken, lineEnded, byteGathered, byteRead, fedOf, endedOf}
+use Rattle.plans.specs.Machine.{keptWith, keptText, gatheringAt, afterSpace, inRemark, withSpace, withByte, gathered, isBadLine, gatheredEntry, readingWith, startOf, lineTaken, lineEnded, byteGathered, byteRead, fedOf, endedOf}
 use Rattle.plans.specs.Theorems.{fedAll, joined, ChunksDoNotMatter, NothingBehind}
 use Rattle.plans.proofs.Feeds.{fed-over, fed-on}
 

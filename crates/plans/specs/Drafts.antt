@@ -1,5 +1,5 @@
 -- A plan as far as it is read, and the plan of a whole text (docs/LINES.md, busplan FILE; 02 j). Assumes nothing.
-use Prim.Native.Nat.{ℕ, suc, _+_, _%_, _^_}
+use Prim.Native.Nat.{ℕ, _+_, _%_, _^_}
 use mathlib.Core.Bool.{Bool, true, false, cond}
 use mathlib.Core.List.{List, [], _∷_, _++_}
 use lib.Dec.{eqb}

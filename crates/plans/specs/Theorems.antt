@@ -8,6 +8,7 @@ use lib.ListN.{length, take}
 use Rattle.schedule.specs.declared.messages.Message.{Message}
 use Rattle.schedule.specs.declared.schedules.Schedule.{Schedule}
 use Rattle.schedule.specs.Messages.{messagesMost, messagesIn}
+use Rattle.schedule.specs.Frames.{checkOf}
 use Rattle.plans.specs.declared.entries.Fault.the-variants as fault
 use Rattle.plans.specs.declared.drafts.Draft.{Draft}
 use Rattle.plans.specs.declared.readings.Reading.{Reading}
@@ -72,8 +73,15 @@ pub record SaidBack (schedule : Schedule) (firsts capacities : List ℕ) (d : Dr
   pub placed : d .unplaced ≡ false
   pub whole : d .fault ≡ fault.None
 
--- "`busplan OUT` then accepts the same schedule": what is written of a schedule, read, is the schedule: plan-read-back
+-- What is written of a schedule, read, is the schedule: plan-read-back
 abbrev pub PlanReadBack : Type 0
 PlanReadBack =
     (schedule : Schedule) (firsts capacities : List ℕ) → Writable schedule firsts capacities
     → SaidBack schedule firsts capacities (planOf (planText schedule firsts capacities))
+
+-- "`busplan OUT` then accepts the same schedule.": the check says of it what it said of the schedule: checked-again
+abbrev pub CheckedAgain : Type 0
+CheckedAgain =
+    (schedule : Schedule) (firsts capacities : List ℕ) → Writable schedule firsts capacities
+    → checkOf (planOf (planText schedule firsts capacities) .schedule) (planOf (planText schedule firsts capacities) .firsts) (planOf (planText schedule firsts capacities) .capacities)
+    ≡ checkOf schedule firsts capacities

@@ -1,6 +1,6 @@
 // The reading of a plan: chunks of its text are told into lines (docs/LINES.md, busplan FILE). Meaning: specs/Machine.antt. Refusals: none.
 ghost use mathlib.Core.Path.{_≡_};
-ghost use Rattle.plans.specs.Machine.{readingWith, startOf, lineTaken, fedOf, endedOf};
+ghost use Rattle.plans.specs.Machine.{startOf, lineTaken, fedOf, endedOf};
 use crate::drafts::Draft;
 use crate::gatherings::Gathering;
 

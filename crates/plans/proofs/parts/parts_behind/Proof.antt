@@ -2,7 +2,7 @@
 use mathlib.Core.Logic.{⊎-elim}
 use Rattle.plans.proofs.Splits.{count-space, count-other, counted-all}
 use Prim.Native.Nat.{_+_, _-_, _≤_}
-use mathlib.Core.Path.{_≡_, refl}
+use mathlib.Core.Path.{_≡_}
 use native.Mathlib.Omega.{arith}
 use lib.ListN.{length, drop}
 use Rattle.plans.specs.Parts.{partsBehind}
