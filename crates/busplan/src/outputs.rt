@@ -4,7 +4,6 @@ use crate::complaints::PROGRAM;
 use libc::STDOUT_FILENO;
 use lines::Block;
 use lines::Sink;
-use lines::complain;
 use schedule::Frames;
 use schedule::Message;
 use schedule::Schedule;
@@ -16,12 +15,9 @@ pub(crate) enum Form {
     Plan,
 }
 
-// Writes the lines that wait.
-fn finish(listed: Sink, block: &Block) -> bool {
-    let after = listed.flush(block);
-    if after.failed {
-        complain(&PROGRAM, b"standard output");
-    }
+// Writes the lines that wait. They fit the block, so that no write was tried before.
+fn is_flushed(listed: Sink, block: &Block) -> bool {
+    let after = listed.flush_told(block, &PROGRAM);
     !after.failed
 }
 
@@ -31,14 +27,14 @@ pub(crate) fn write_line(line: &[u8]) -> bool {
     let listed = Sink::to(STDOUT_FILENO)
         .put_text(&mut block, line)
         .put(&mut block, b'\n');
-    finish(listed, &block)
+    is_flushed(listed, &block)
 }
 
 // Writes a line that ends in a name: "# error NAME".
 pub(crate) fn write_named(begin: &[u8], name: &[u8]) -> bool {
     let mut block = io::large_buffer();
     let listed = Sink::to(STDOUT_FILENO).put_named(&mut block, begin, name);
-    finish(listed, &block)
+    is_flushed(listed, &block)
 }
 
 // Writes a line that ends in a number: "# refused 15".
@@ -47,7 +43,7 @@ pub(crate) fn write_numbered(begin: &[u8], number: u64) -> bool {
     let listed = Sink::to(STDOUT_FILENO)
         .put_number(&mut block, begin, number)
         .put(&mut block, b'\n');
-    finish(listed, &block)
+    is_flushed(listed, &block)
 }
 
 // Puts the command words of a message, and between two of them a byte.
@@ -149,5 +145,5 @@ pub(crate) fn write_schedule(
     schedule.loads(firsts, &mut loads);
     let listed = put_messages(Sink::to(STDOUT_FILENO), &mut block, form, schedule, firsts);
     let framed = put_frames(listed, &mut block, &loads, capacities);
-    finish(framed, &block)
+    is_flushed(framed, &block)
 }

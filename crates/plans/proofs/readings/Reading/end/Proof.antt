@@ -8,10 +8,10 @@ with-line-requires : tie.Need-with-line-requires
 with-line-requires c κs = search needs
 
 returns : tie.Need-returns
-returns c = ends-line _ _ (c .before .if1 .taken) (c .with-line .ensures)
+returns c = search (ends-line, needs)
 
 returns-2 : tie.Need-returns-2
-returns-2 c = ends-bad _ (c .before .before .args .self .draft) (c .if1 .left)
+returns-2 c = search (ends-bad, needs)
 
 pub end-spec : {M : Type 1} → statement M
 end-spec = tie.close (tie.spec with-line-requires returns returns-2)
