@@ -1,22 +1,45 @@
--- `read_plan` is safe and ends: nothing has to hold from turn to turn, and the measure is the number of turns that are left. Assumes nothing.
+-- `read_plan` is safe and ends: the chunk keeps its length, and the measure is the number of turns that are left. Assumes nothing.
+use mathlib.Core.Path.{_≡_}
+use lib.ListN.{length}
 use borrow.Author.Needs.{needs}
 use Rattle.busplan.proofs.readers.read_plan.Statement.{statement}
 use Rattle.busplan.proofs.readers.read_plan.Tie as tie
 
 abbrev Inv-loop : tie.InvT-loop
-Inv-loop input reading₀ turns₀ reading turns = Unit {0}
+Inv-loop input reading₀ chunk₀ got₀ turns₀ reading chunk got turns = length chunk ≡ 65536
 
 abbrev μ-loop : tie.MeasureT-loop
-μ-loop input reading₀ turns₀ reading turns = turns
+μ-loop input reading₀ chunk₀ got₀ turns₀ reading chunk got turns = turns
 
 start-requires : tie.Need-start-requires Inv-loop μ-loop
-start-requires c κs = tt
+start-requires c κs = search needs
+
+large-buffer-requires : tie.Need-large-buffer-requires Inv-loop μ-loop
+large-buffer-requires c κs = search needs
 
 loop-holds : tie.Need-loop-holds Inv-loop μ-loop
-loop-holds c = tt
+loop-holds c = search needs
 
-turn-requires : tie.Need-turn-requires Inv-loop μ-loop
-turn-requires c κs = tt
+slice-aggregate-read : tie.Need-slice-aggregate-read Inv-loop μ-loop
+slice-aggregate-read c = search needs
+
+read-requires : tie.Need-read-requires Inv-loop μ-loop
+read-requires c κs = search needs
+
+slice-aggregate-count : tie.Need-slice-aggregate-count Inv-loop μ-loop
+slice-aggregate-count c = search needs
+
+count-requires : tie.Need-count-requires Inv-loop μ-loop
+count-requires c κs = search needs
+
+array-share-prefix-chunk : tie.Need-array-share-prefix-chunk Inv-loop μ-loop
+array-share-prefix-chunk c = search needs
+
+slice-aggregate-take : tie.Need-slice-aggregate-take Inv-loop μ-loop
+slice-aggregate-take c = search needs
+
+take-requires : tie.Need-take-requires Inv-loop μ-loop
+take-requires c κs = search needs
 
 sub-turns : tie.Need-sub-turns Inv-loop μ-loop
 sub-turns c = search needs
@@ -25,13 +48,10 @@ loop-less : tie.Need-loop-less Inv-loop μ-loop
 loop-less c = search needs
 
 loop-again : tie.Need-loop-again Inv-loop μ-loop
-loop-again c = tt
+loop-again c = search needs
 
 returns : tie.Need-returns Inv-loop μ-loop
 returns c = tt
-
-returns-2 : tie.Need-returns-2 Inv-loop μ-loop
-returns-2 c = tt
 
 pub read-plan-spec : {M : Type 1} → statement M
 read-plan-spec =
@@ -40,10 +60,16 @@ read-plan-spec =
     Inv-loop
     μ-loop
     start-requires
+    large-buffer-requires
     loop-holds
-    turn-requires
+    slice-aggregate-read
+    read-requires
+    slice-aggregate-count
+    count-requires
+    array-share-prefix-chunk
+    slice-aggregate-take
+    take-requires
     sub-turns
     loop-less
     loop-again
-    returns
-    returns-2)
+    returns)
