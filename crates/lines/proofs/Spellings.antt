@@ -1,15 +1,14 @@
 -- Texts in their places, one behind the other; the digits of a number, from the last one on. Assumes nothing.
 use mathlib.Core.Path.{_≡_, refl, sym, ap, ap₂, subst, _∙_}
-use mathlib.Core.Bool.{true, false}
 use Prim.Native.Nat.{ℕ, zero, suc, _+_, _*_, _-_, _/_, _%_, _^_, _≤_, _<_}
 use native.Mathlib.Nat.{pow-suc}
 use native.Mathlib.Omega.{arith}
 use mathlib.Core.List.{List, [], _∷_, _++_, append-assoc}
 use lib.ListN.{length, getD, take, drop, set, length-append, length-drop, length-set, take-append-drop}
-use lib.Seq.{length-take-le, drop-drop, drop-append-add, take-suc, append-snoc, set-at}
+use lib.Seq.{length-take-le, drop-drop, drop-append-add, take-suc, set-at}
 use borrow.Author.Tests.{lt-ltb}
 use Rattle.io.specs.Digits.{glyph, digits, Fewest}
-use Rattle.lines.specs.Sinks.{putAt, digitOf, decimalText}
+use Rattle.lines.specs.Sinks.{putAt, decimalText}
 use Rattle.lines.specs.Spells.{Spelled}
 use Rattle.lines.proofs.Losses.{behind}
 use Rattle.lines.proofs.Texts.{decimal-in}

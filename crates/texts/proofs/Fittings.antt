@@ -1,16 +1,15 @@
 -- What an entry has, it has of its records: their times, buses and words; and it counts no more than they are. Assumes nothing.
-use mathlib.Core.Path.{_≡_, refl}
-use mathlib.Core.Bool.{Bool, true, false, cond, not, _&&_, _||_}
-use Prim.Native.Nat.{ℕ, _+_, _-_, _^_, _≤_, _<_}
+use mathlib.Core.Bool.{Bool, true, false, cond, not, _||_}
+use Prim.Native.Nat.{ℕ, _+_, _-_, _≤_}
 use native.Mathlib.Omega.{arith}
 use mathlib.Core.List.{List, [], _∷_}
 use lib.Dec.{leb}
 use lib.ListN.{length}
-use borrow.Author.Tests.{leb-true, ltb-true}
-use Rattle.words.specs.Words.{onClock, sinceOf, parityMiddle}
+use Rattle.words.specs.Words.{sinceOf, parityMiddle}
 use Rattle.words.specs.declared.times.Moment.{Moment}
-use Rattle.words.proofs.Truth.{and-both}
+use Rattle.records.specs.Records.{lastBus}
 use Rattle.records.specs.Theorems as records
+use Rattle.records.proofs.Ranges.{in-range-all}
 use Rattle.records.specs.declared.forms.WordRecord.{WordRecord}
 use Rattle.verdict.specs.Plans.{isPossible}
 use Rattle.verdict.specs.Verdicts.{verdictOf}
@@ -22,23 +21,20 @@ use Rattle.monitor.specs.declared.entries.Outcome.the-variants as outcome
 use Rattle.monitor.specs.declared.entries.Entry.the-variants as entry
 use Rattle.texts.specs.Theorems.{Number, CommandsFit, StatusesFit, GapFits, OutcomeFits, SingleFits, Fits, EntryFits}
 
-record-fits : (r : WordRecord) → records.Fits r → SingleFits r
+record-fits : (r : WordRecord) → records.Fits lastBus r → SingleFits r
 record-fits r f =
-    let parity = and-both (onClock (r .time .0) && leb (r .bus) 1 && leb (r .sync) 2 && leb (r .faults) 3) (leb (r .parity) 1) (f .in-range) in
-    let faults = and-both (onClock (r .time .0) && leb (r .bus) 1 && leb (r .sync) 2) (leb (r .faults) 3) (parity .0) in
-    let sync = and-both (onClock (r .time .0) && leb (r .bus) 1) (leb (r .sync) 2) (faults .0) in
-    let bus = and-both (onClock (r .time .0)) (leb (r .bus) 1) (sync .0) in
+    let ranged = in-range-all lastBus r (f .in-range) in
     record {
-      time = omega (arith, ltb-true (r .time .0) (2 ^ 48) (bus .0));
-      bus = leb-true (r .bus) 1 (bus .1);
-      sync = omega (arith, leb-true (r .sync) 2 (sync .1));
-      faults = omega (arith, leb-true (r .faults) 3 (faults .1));
+      time = omega (arith, ranged .time);
+      bus = ranged .bus;
+      sync = omega (arith, ranged .sync);
+      faults = omega (arith, ranged .faults);
       word = f .sixteen;
-      parity = omega (arith, leb-true (r .parity) 1 (parity .1));
+      parity = omega (arith, ranged .parity);
     }
 
 module _ (first : WordRecord) where
-  commands-fit : (rest : List WordRecord) → records.AllFit (first ∷ rest) → CommandsFit (commandsOf first rest)
+  commands-fit : (rest : List WordRecord) → records.AllFit lastBus (first ∷ rest) → CommandsFit (commandsOf first rest)
   commands-fit [] f = f .0 .sixteen
   commands-fit (r ∷ rest) f = by (isSecond first r)
     where
@@ -46,23 +42,23 @@ module _ (first : WordRecord) where
       by true = (f .0 .sixteen, f .1 .0 .sixteen)
       by false = f .0 .sixteen
 
-  behind-fit : (rest : List WordRecord) → records.AllFit rest → records.AllFit (behindOf first rest)
+  behind-fit : (rest : List WordRecord) → records.AllFit lastBus rest → records.AllFit lastBus (behindOf first rest)
   behind-fit [] f = f
   behind-fit (r ∷ rest) f = by (isSecond first r)
     where
-      by : (b : Bool) → records.AllFit (cond b rest (r ∷ rest))
+      by : (b : Bool) → records.AllFit lastBus (cond b rest (r ∷ rest))
       by true = f .1
       by false = f
 
-statuses-in : (rs : List WordRecord) → records.AllFit rs → records.AllFit (statusesIn rs)
+statuses-in : (rs : List WordRecord) → records.AllFit lastBus rs → records.AllFit lastBus (statusesIn rs)
 statuses-in [] f = f
 statuses-in (r ∷ rs) f = by (isCommand r) (statuses-in rs (f .1))
   where
-    by : (b : Bool) → records.AllFit (statusesIn rs) → records.AllFit (cond b (r ∷ statusesIn rs) (statusesIn rs))
+    by : (b : Bool) → records.AllFit lastBus (statusesIn rs) → records.AllFit lastBus (cond b (r ∷ statusesIn rs) (statusesIn rs))
     by true more = (f .0, more)
     by false more = more
 
-statuses-fit : (rs : List WordRecord) → records.AllFit rs → StatusesFit (statusesBy rs)
+statuses-fit : (rs : List WordRecord) → records.AllFit lastBus rs → StatusesFit (statusesBy rs)
 statuses-fit [] f = tt
 statuses-fit (r ∷ []) f = f .0 .sixteen
 statuses-fit (r ∷ s ∷ rs) f = (f .0 .sixteen, f .1 .0 .sixteen)
@@ -76,7 +72,7 @@ gap-from before after l = by (leb parityMiddle (sinceOf before after))
     by true = omega (arith, l)
     by false = omega arith
 
-gap-fits : (before : ℕ) (rs : List WordRecord) → records.AllFit rs → GapFits (gapBefore before rs)
+gap-fits : (before : ℕ) (rs : List WordRecord) → records.AllFit lastBus rs → GapFits (gapBefore before rs)
 gap-fits before [] f = tt
 gap-fits before (r ∷ rs) f = by (isCommand r) (gap-from before (r .time .0) (record-fits r (f .0) .time)) (gap-fits (r .time .0) rs (f .1))
   where

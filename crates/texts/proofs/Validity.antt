@@ -4,16 +4,17 @@ use mathlib.Core.Bool.{Bool, true, false, not, _&&_, _||_, true≢false, and-fal
 use Prim.Native.Nat.{ℕ, _<_}
 use native.Mathlib.Omega.{arith}
 use mathlib.Core.List.{List}
-use lib.Dec.{eqb, leb}
+use lib.Dec.{eqb}
 use lib.ListN.{getD}
-use borrow.Author.Tests.{leb-true, lt-ltb, eq-eqb, ne-eqb}
-use Rattle.words.specs.Words.{isOdd, parityOf, isValid, onClock}
+use borrow.Author.Tests.{lt-ltb, eq-eqb, ne-eqb}
+use Rattle.words.specs.Words.{isOdd, parityOf, isValid}
 use Rattle.words.proofs.Oddness.{parity-one}
-use Rattle.words.proofs.Truth.{and-both, passes, passed}
-use Rattle.records.specs.Records.{inRange}
+use Rattle.words.proofs.Truth.{passes, passed}
+use Rattle.records.specs.Records.{lastBus, inRange}
+use Rattle.records.proofs.Ranges.{in-range-all}
 use Rattle.records.specs.declared.forms.WordRecord.{WordRecord}
 use Rattle.lines.specs.Spells.{textOf}
-use Rattle.texts.specs.Entries.{flawMark, flawText, flawsText, badText, hasParityFlaw, hasManchesterFlaw, hasBitsFlaw, hasSyncFlaw}
+use Rattle.texts.specs.Entries.{flawMark, flawText, flawsText, hasParityFlaw, hasManchesterFlaw, hasBitsFlaw, hasSyncFlaw}
 use Rattle.texts.specs.Theorems.{ValidTold}
 
 -- of a parity bit, odd is: the one that is given
@@ -46,16 +47,14 @@ same-test n f g all i l = by (f i) (g i) (passed n (λ (j : ℕ). (f j && g j) |
     by false true e = e
     by false false e = refl
 
-valid-as : (r : WordRecord) → inRange r ≡ true
+valid-as : (r : WordRecord) → inRange lastBus r ≡ true
     → isValid (r .sync) (r .faults) (r .word) (r .parity) ≡ not (hasParityFlaw r || hasManchesterFlaw r || hasBitsFlaw r || hasSyncFlaw r)
 unfolding isValid passes
 valid-as r h =
-    let outer = and-both (onClock (r .time .0) && leb (r .bus) 1 && leb (r .sync) 2 && leb (r .faults) 3) (leb (r .parity) 1) h in
-    let fault = and-both (onClock (r .time .0) && leb (r .bus) 1 && leb (r .sync) 2) (leb (r .faults) 3) (outer .0) in
-    let shape = and-both (onClock (r .time .0) && leb (r .bus) 1) (leb (r .sync) 2) (fault .0) in
-    let parity : r .parity < 2 = omega (arith, leb-true (r .parity) 1 (outer .1)) in
-    let faults : r .faults < 4 = omega (arith, leb-true (r .faults) 3 (fault .1)) in
-    let sync : r .sync < 3 = omega (arith, leb-true (r .sync) 2 (shape .1)) in
+    let ranged = in-range-all lastBus r h in
+    let parity : r .parity < 2 = omega (arith, ranged .parity) in
+    let faults : r .faults < 4 = omega (arith, ranged .faults) in
+    let sync : r .sync < 3 = omega (arith, ranged .sync) in
     rw (
       same-test 3 (λ (i : ℕ). eqb i 0 || eqb i 1) (λ (i : ℕ). not (eqb i 2)) refl (r .sync) sync,
       same-test 4 (λ (i : ℕ). eqb i 0) (λ (i : ℕ). not ((eqb i 1 || eqb i 3) || (eqb i 2 || eqb i 3))) refl (r .faults) faults,

@@ -4,7 +4,6 @@ use mathlib.Core.Bool.{Bool, false, not, _&&_, _||_}
 use mathlib.Core.List.{List, _++_}
 use lib.Dec.{eqb, leb}
 use Rattle.words.specs.Words.{addressOf}
-use Rattle.records.specs.declared.forms.WordRecord.{WordRecord}
 use Rattle.monitor.specs.declared.entries.Commands.{Commands}
 use Rattle.monitor.specs.declared.entries.Commands.the-variants as commands
 use Rattle.monitor.specs.declared.entries.Outcome.{Outcome}

@@ -7,7 +7,7 @@ use lib.Dec.{eqb, leb}
 use lib.ListN.{length, getD, take}
 use Rattle.words.specs.Words.{isValid}
 use Rattle.words.specs.declared.times.Moment.{Moment}
-use Rattle.records.specs.Records.{inRange}
+use Rattle.records.specs.Records.{lastBus, inRange}
 use Rattle.records.specs.Theorems as records
 use Rattle.records.specs.declared.forms.WordRecord.{WordRecord}
 use Rattle.monitor.specs.Entries.{entryOf}
@@ -83,7 +83,7 @@ Fits (entry.Single r) = SingleFits r
 -- An entry has this of its records, which were read, and which are fewer than 2^64: entry-fits
 abbrev pub EntryFits : Type 0
 EntryFits =
-    (first : WordRecord) (rest : List WordRecord) (until : Moment) → records.AllFit (first ∷ rest) → length (first ∷ rest) < 2 ^ 64
+    (first : WordRecord) (rest : List WordRecord) (until : Moment) → records.AllFit lastBus (first ∷ rest) → length (first ∷ rest) < 2 ^ 64
     → Fits (entryOf first rest until)
 
 -- Two entries with one text are the same entry, with or without what `-v` adds: no line leaves out or blurs anything that an entry has: text-tells
@@ -221,6 +221,6 @@ pub record AddedExamples : Type 0 where
 -- "and ` bad=-` where the word is valid": there and nowhere else: valid-told
 abbrev pub ValidTold : Type 0
 ValidTold =
-    (r : WordRecord) → inRange r ≡ true
+    (r : WordRecord) → inRange lastBus r ≡ true
     → (isValid (r .sync) (r .faults) (r .word) (r .parity) ≡ true → badText r ≡ textOf " bad=-")
     × (badText r ≡ textOf " bad=-" → isValid (r .sync) (r .faults) (r .word) (r .parity) ≡ true)

@@ -1,13 +1,12 @@
 // The lines that close a log, and those of a saving: what was skipped, and how it ended (02 a, c; docs/LINES.md). Meaning: specs/Logs.antt, specs/Saves.antt. Refusals: none.
 ghost use mathlib.Core.Path.{_≡_};
 ghost use mathlib.Core.Bool.{true};
-ghost use mathlib.Core.List.{[], _∷_, _++_};
 ghost use Prim.Native.Nat.{_+_, _≤_};
 ghost use Rattle.lines.specs.Sinks.{blockBytes};
 ghost use Rattle.lines.specs.Spells.{Spelled, placeAfterLine, blockAfterLine};
 ghost use Rattle.texts.specs.Entries.{lineOf};
 ghost use Rattle.texts.specs.Logs.{logEndText, logRefusedText};
-ghost use Rattle.texts.specs.Saves.{runText, runLine, firstText, saveEndText};
+ghost use Rattle.texts.specs.Saves.{runLine, firstText, saveEndText};
 use lines::Block;
 use lines::LINE_MOST;
 use lines::Sink;

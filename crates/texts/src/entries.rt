@@ -1,6 +1,5 @@
 // The line of an entry (02 a and i; docs/LINES.md): "Each entry has bus, time, command words, statuses .., numbers of valid data words and of records, the gap before the first
 // status, and the verdict". Meaning: specs/Entries.antt. Inner leaves, each with the most bytes that it takes. Refusals: none.
-ghost use mathlib.Core.Path.{_≡_};
 ghost use Prim.Native.Nat.{_+_, _≤_};
 ghost use lib.ListN.{length};
 ghost use Rattle.lines.specs.Sinks.{blockBytes};

@@ -1,7 +1,6 @@
 // What is bad in a word outside any message (02 a; docs/LINES.md, `-v`): "A word is valid if its sync is one of the two shapes, no receiver fault is marked and parity is odd." Meaning:
 // specs/Entries.antt. Inner leaves. Refusals: none.
 ghost use mathlib.Core.Path.{_≡_};
-ghost use mathlib.Core.Bool.{cond};
 ghost use Prim.Native.Nat.{_+_, _≤_};
 ghost use lib.ListN.{length};
 ghost use Rattle.lines.specs.Sinks.{blockBytes};
