@@ -9,10 +9,8 @@ use crate::explanations::explain_frame;
 use crate::explanations::explain_none;
 use crate::explanations::explain_refusal;
 use crate::files::save;
-use crate::outputs::Form;
-use crate::outputs::write_line;
+use crate::outputs::write_closing;
 use crate::outputs::write_named;
-use crate::outputs::write_numbered;
 use crate::outputs::write_schedule;
 use crate::readers::Source;
 use crate::readers::read_plan;
@@ -22,6 +20,7 @@ use lines::is_dash;
 use plans::Draft;
 use schedule::Outcome;
 use schedule::Proposal;
+use texts::Closing;
 use words::Refusal;
 
 // Opens a plan, "-" being standard input. A negative answer: it cannot be opened.
@@ -44,18 +43,10 @@ fn end_named(name: &[u8]) -> bool {
     false
 }
 
-// Ends the lines by a number: that of a refusal, or of what is rejected or bad.
-fn end_numbered(begin: &[u8], number: u64) -> bool {
-    write_numbered(begin, number);
+// Ends the lines of what was not accepted.
+fn end(closing: Closing) -> bool {
+    write_closing(closing);
     false
-}
-
-// Gives how messages are listed.
-fn form_of(in_words: bool) -> Form {
-    if in_words {
-        return Form::InWords;
-    }
-    Form::Brief
 }
 
 // Writes all messages and frames.
@@ -63,19 +54,19 @@ fn list(draft: Draft, in_words: bool) -> bool {
     let schedule = draft.schedule;
     let firsts = draft.firsts;
     let capacities = draft.capacities;
-    write_schedule(form_of(in_words), schedule, &firsts, &capacities)
+    write_schedule(in_words, schedule, &firsts, &capacities)
 }
 
 // "more messages, another period or an impossible plan is refused with 15": that line alone.
 fn refuse(draft: Draft, name: &[u8], refusal: Refusal) -> bool {
     explain_refusal(draft, name);
-    end_numbered(b"# refused ", refusal.0 as u64)
+    end(Closing::Refused(refusal))
 }
 
 // Ends the lines of a plan with a first frame that is not below its period: that line alone.
 fn reject_message(draft: Draft, name: &[u8], message: u64) -> bool {
     explain_first(draft, name, message);
-    end_numbered(b"# rejected message=", message)
+    end(Closing::RejectedMessage(message))
 }
 
 // Ends the lines of a plan that overloads a frame, behind all messages and frames.
@@ -84,7 +75,7 @@ fn reject_frame(draft: Draft, name: &[u8], in_words: bool, frame: u64) -> bool {
         return false;
     }
     explain_frame(draft, name, frame);
-    end_numbered(b"# rejected frame=", frame)
+    end(Closing::RejectedFrame(frame))
 }
 
 // Ends the lines of a plan that holds, behind all messages and frames and once its file is on the disk, where one is asked for.
@@ -100,7 +91,7 @@ fn accept(draft: Draft, out: &[u8], in_words: bool) -> bool {
             return end_named(out);
         }
     }
-    write_line(b"# accepted")
+    write_closing(Closing::Accepted)
 }
 
 // Writes what the check says of a schedule.
@@ -128,8 +119,7 @@ fn propose(draft: Draft, name: &[u8], out: &[u8], in_words: bool) -> bool {
         }
         Proposal::None => {
             explain_none(draft, name);
-            write_line(b"# none");
-            false
+            end(Closing::NoSchedule)
         }
         Proposal::Refused(refusal) => refuse(draft, name, refusal),
     }
@@ -154,7 +144,7 @@ fn close(source: Source, name: &[u8], out: &[u8], in_words: bool) -> bool {
     }
     let fault = draft.fault;
     complain_of_line(name, draft.line, fault);
-    end_numbered(b"# error line=", draft.line)
+    end(Closing::BadLine(draft.line))
 }
 
 // Checks or proposes the schedule of a plan; a file of it is made where that has a name. The first line goes out before the plan is opened: where
