@@ -5,7 +5,7 @@ use native.Mathlib.Nat.{pow-suc}
 use native.Mathlib.Omega.{arith}
 use mathlib.Core.List.{List, [], _∷_, _++_, append-assoc}
 use lib.ListN.{length, getD, take, drop, set, length-append, length-drop, length-set, take-append-drop}
-use lib.Seq.{length-take-le, drop-drop, drop-append-add, take-suc, set-at}
+use lib.Seq.{lt-length-set, length-take-le, drop-drop, drop-append-add, take-suc, set-at}
 use borrow.Author.Tests.{lt-ltb}
 use Rattle.io.specs.Digits.{glyph, digits, Fewest}
 use Rattle.lines.specs.Sinks.{putAt, decimalText}
@@ -191,11 +191,42 @@ filling-more block₀ at number count block left i h l =
           (ap (λ (n : ℕ). (48 + n % 10) ∷ digits 10 k number) (h .left-is) ∙ digits-front k number ∙ ap (λ (n : ℕ). digits 10 n number) next);
     }
 
+-- the higher of two has its place too
+pub filling-low : (block₀ : List ℕ) (at number count : ℕ) (block : List ℕ) (left i place byte : ℕ) → Filling block₀ at number count block left i → 1 < i
+    → at + (i - 2) < length (set block place byte)
+filling-low block₀ at number count block left i place byte h l = lt-length-set block place byte (omega (arith, h .most, h .room, h .size, l))
+
+-- two digits at once
+pub filling-two : (block₀ : List ℕ) (at number count : ℕ) (block : List ℕ) (left i : ℕ) → Filling block₀ at number count block left i → 1 < i
+    → Filling block₀ at number count (set (set block (at + (i - 2) + 1) (48 + left % 100 % 10)) (at + (i - 2)) (48 + left % 100 / 10)) (left / 100) (i - 2)
+filling-two block₀ at number count block left i h l =
+    let one = filling-more block₀ at number count block left i h (omega (arith, l)) in
+    let two = filling-more block₀ at number count (set block (at + (i - 1)) (48 + left % 10)) (left / 10) (i - 1) one (omega (arith, l)) in
+    let place : at + (i - 1) ≡ at + (i - 2) + 1 = omega (arith, l) in
+    let next : i - 1 - 1 ≡ i - 2 = omega arith in
+    let low : left % 10 ≡ left % 100 % 10 = omega arith in
+    let high : left / 10 % 10 ≡ left % 100 / 10 = omega arith in
+    let rest : left / 10 / 10 ≡ left / 100 = omega arith in
+    rw (← low, ← high, ← rest, ← place, ← next) two
+
 pub filled : (block₀ : List ℕ) (at number count : ℕ) (block : List ℕ) (left i : ℕ) → Filling block₀ at number count block left i → i ≤ 0
     → block ≡ putAt block₀ at (digits 10 count number)
 filled block₀ at number count block left i h l =
     h .block-is
     ∙ ap₂ (λ (p k : ℕ). putAt block₀ p (digits 10 k number)) {x = at + i} {y = at} {u = count - i} {v = count} (omega (arith, l)) (omega (arith, l))
+
+-- the first digit, where it is left alone
+pub filled-one : (block₀ : List ℕ) (at number count : ℕ) (block : List ℕ) (left i : ℕ) → Filling block₀ at number count block left i → i ≡ 1
+    → set block at (48 + left % 10) ≡ putAt block₀ at (digits 10 count number)
+filled-one block₀ at number count block left i h e =
+    let last = filling-more block₀ at number count block left i h (omega (arith, e)) in
+    ap (λ (p : ℕ). set block p (48 + left % 10)) {x = at} {y = at + (i - 1)} (omega (arith, e))
+    ∙ filled block₀ at number count (set block (at + (i - 1)) (48 + left % 10)) (left / 10) (i - 1) last (omega (arith, e))
+
+-- none is left
+pub filled-even : (block₀ : List ℕ) (at number count : ℕ) (block : List ℕ) (left i : ℕ) → Filling block₀ at number count block left i → i ≤ 1 → (i ≡ 1 → ⊥)
+    → block ≡ putAt block₀ at (digits 10 count number)
+filled-even block₀ at number count block left i h l n = filled block₀ at number count block left i h (omega (arith, l, n))
 
 -- the digits that were counted are spelled in their place
 pub number-spelled : (block last : List ℕ) (at number count : ℕ) → at + count ≤ length block → Fewest 10 1 number count × (count ≤ 20)
