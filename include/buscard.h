@@ -15,9 +15,9 @@
 #include <stdint.h>
 
 /* The version of this header and of the library: that of CHANGELOG.md's first heading. */
-#define BUSCARD_VERSION "0.20.0"
+#define BUSCARD_VERSION "0.21.0"
 #define BUSCARD_VERSION_MAJOR 0
-#define BUSCARD_VERSION_MINOR 20
+#define BUSCARD_VERSION_MINOR 21
 #define BUSCARD_VERSION_PATCH 0
 
 #ifdef __cplusplus

@@ -18,7 +18,7 @@ use lines::read_decimal;
 use lines::remark;
 
 // that of CHANGELOG.md's first entry
-pub const VERSION: [u8; 6] = *b"0.20.0";
+pub const VERSION: [u8; 6] = *b"0.21.0";
 
 // the largest descriptor that the system could have
 const DESCRIPTOR_MOST: u64 = 2147483647;
