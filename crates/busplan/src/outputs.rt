@@ -1,5 +1,5 @@
-// The lines that the program writes (02 j; docs/LINES.md). Each function that writes says whether standard
-// output took it; where it did not, standard error has said why. Refusals: none.
+// The lines that the program writes (02 j; docs/LINES.md). Each function that writes says whether standard output took it; where it did not, standard error has said why.
+// Refusals: none.
 use crate::complaints::PROGRAM;
 use libc::STDOUT_FILENO;
 use lines::Block;

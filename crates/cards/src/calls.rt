@@ -37,7 +37,7 @@ pub(crate) enum Name {
 }
 
 impl Name {
-    // Says whether a call is one at the terminal, which leaves all else as it is.
+    // Says whether a call is one at the terminal, which leaves the bench as it is.
     pub(crate) fn is_at_terminal(self) -> bool {
         match self {
             Name::Word | Name::Mark | Name::Setup | Name::SetupLending => true,

@@ -13,7 +13,7 @@ use Rattle.plans.specs.declared.entries.Entry.the-variants.{Nothing, Cap
 use Rattle.plans.specs.declared.drafts.Draft.{Draft}
 use Rattle.plans.specs.Entries.{entryOf}
 
--- One more, in a number of 64 bits.
+-- One more, in a number of 64 bits: exact for every text of fewer than 2^64 lines.
 abbrev pub oneMore : ℕ → ℕ
 oneMore number = (number + 1) % 2 ^ 64
 

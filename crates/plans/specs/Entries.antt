@@ -96,7 +96,8 @@ partsEntry (name ∷ parts) =
 
 -- ---- a whole line, without its end
 
--- The longest line that is good has 59 bytes where its parts are one space apart: "message C1 C2 PERIOD FIRST" with numbers of 20 digits.
+-- The longest line that is good has 59 bytes where its parts are one space apart: "message C1 C2 PERIOD FIRST" with numbers of 20 digits (house: the bound says which
+-- fault a longer line has, and that it is known before its end).
 abbrev pub lineMost : ℕ
 lineMost = 64
 

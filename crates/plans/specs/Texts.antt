@@ -38,7 +38,7 @@ capacitiesText capacities =
 
 -- ---- "and each message with the first frame that holds"
 
--- "`message C1 [C2] PERIOD FIRST`"
+-- "`message C1 [C2] PERIOD [FIRST]`", each with its first frame
 unfoldable pub messageParts : Message → ℕ → List (List ℕ)
 messageParts message first =
     cond (eqb (message .commands) 1)

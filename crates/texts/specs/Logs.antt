@@ -24,7 +24,7 @@ logRefusedText refusal place byte entries =
     numberText (textOf "# refused ") refusal
     ++ (numberText (textOf " record=") place ++ (numberText (textOf " byte=") byte ++ numberText (textOf " entries=") entries))
 
--- ---- "They narrow what is shown and nothing else ..; a message is shown whole or not at all."
+-- ---- "They narrow what is shown and nothing else: .. a message is shown whole or not at all."
 
 -- "`-b A` or `-b B`: only that bus."
 abbrev pub isOnBus : Wanted → ℕ → Bool

@@ -117,7 +117,7 @@ isSign byte = leb 32 byte && not (eqb byte 127)
 abbrev pub isPlain : List ℕ → Bool
 isPlain text = areAll isSign text
 
--- Something holds of the text of every line.
+-- Something holds of the text of every line of an entry, of a log's end and of a saving.
 pub record EachText (Holds : List ℕ → Type 0) : Type 0 where
   pub entry : (added : Bool) (e : Entry) → Holds (entryText added e)
   pub log-end : (entries records : ℕ) → Holds (logEndText entries records)
@@ -125,7 +125,7 @@ pub record EachText (Holds : List ℕ → Type 0) : Type 0 where
   pub run : (run : Run) → Holds (runText run)
   pub save-end : (totals : Totals) → Holds (saveEndText totals)
 
--- No text of a line holds a line end or any other control character: line-plain
+-- No such text holds a line end or any other control character: line-plain
 abbrev pub LinePlain : Type 0
 LinePlain = EachText (λ text. isPlain text ≡ true)
 
@@ -133,7 +133,7 @@ LinePlain = EachText (λ text. isPlain text ≡ true)
 abbrev pub OneLineEnd : Type 0
 OneLineEnd = EachText (λ text. (place : ℕ) → getD (lineOf text) place 0 ≡ 10 → place ≡ length text)
 
--- Every line has room where room is asked once a line: line-short
+-- Each such line has room where room is asked once a line: line-short
 abbrev pub LineShort : Type 0
 LineShort = EachText (λ text. length (lineOf text) ≤ lineMost)
 
@@ -200,7 +200,7 @@ impossible =
       outcome = outcome.None;
     })
 
--- The document's very lines: line-examples
+-- Lines of the document, one of each kind of `busdump` and `bussave`: line-examples
 pub record LineExamples : Type 0 where
   pub to-one : entryText false toOne ≡ textOf "1000 A msg cmd=2842 st=2800 data=2 rec=4 gap=80 verdict=0 good"
   pub between-two : entryText false betweenTwo ≡ textOf "2000 B msg cmd=2842,2462 st=2000,2800 data=2 rec=6 gap=80 verdict=0 good"

@@ -1,6 +1,5 @@
 // The window: which bytes of a room wait. Meaning: specs/Windows.antt. Refusals: none.
 ghost use mathlib.Core.Path.{_≡_};
-ghost use lib.ListN.{length};
 ghost use Rattle.windows.specs.Windows.{emptyWindow, countOf, waitingIn, afterTaking, frontWindow, frontRoom, withMore, filledOf, filledRoom};
 use crate::rooms::least;
 use crate::rooms::move_front;
