@@ -1,17 +1,20 @@
 -- The texts that a test or a number chooses, by what the code has at that place. Assumes nothing.
 use mathlib.Core.Path.{_≡_, refl, sym, ap, subst, _∙_}
 use mathlib.Core.Bool.{Bool, true, false, cond, not, true≢false}
-use Prim.Native.Nat.{ℕ, suc, _+_, _≤_}
+use Prim.Native.Nat.{ℕ, suc, _+_, _-_, _≤_}
 use native.Mathlib.Omega.{arith}
 use native.Mathlib.Decide.{decLe}
 use mathlib.Core.Logic.{dite}
 use mathlib.Core.List.{List, [], _∷_, _++_}
 use lib.Dec.{eqb}
 use lib.ListN.{length, take, drop, take-append-drop, List·getD-eq-default}
-use borrow.Author.Tests.{eq-eqb, ne-eqb, leb-true}
+use borrow.Author.Tests.{eq-eqb, ne-eqb, leb-true, le-leb}
 use Rattle.words.proofs.Truth.{passes, passed}
 use Rattle.words.specs.Words.{addressOf, subaddressOf, countOf, wordsOf, isTransmit, isBroadcast, isMode, parityOf}
-use Rattle.lines.specs.Sinks.{blockBytes, fitsBehind, putAt, wordText}
+use Rattle.lines.specs.Sinks.{blockBytes, fitsBehind, placeAfter, putAt, blockAfter, wordText}
+use Rattle.lines.specs.Parts.{betweenOf}
+use Rattle.lines.proofs.Waits.{fits-most, place-behind, block-behind}
+use Rattle.lines.proofs.Losses.{behind}
 use Rattle.lines.specs.Spells.{textOf, numberText, Spelled, lineMost, roomAt, placeAfterLine, blockAfterLine}
 use Rattle.lines.proofs.Spellings.{put-length, spelled-as}
 use Rattle.salvage.specs.Machine.{isChanged}
@@ -176,3 +179,29 @@ module _ (at room after : ℕ) (block text last : List ℕ) (e : room ≡ roomAt
   pub line-block : last ≡ blockAfterLine block at text
   unfolding blockAfterLine
   line-block = room-block lineMost at room after block text last e spelled
+
+-- ---- the line of an entry, which waits as a text does
+
+pub spelled-size : {block text last : List ℕ} {at after : ℕ} → Spelled block at text last after → length last ≡ length block
+spelled-size {block = block} {text = text} {at = at} spelled = ap length (spelled .bytes) ∙ put-length block text at (spelled .fits)
+
+module _ (at after : ℕ) (block text last : List ℕ) (spelled : Spelled block at text last after) (most : after ≤ at + 340) (room : at ≤ 65196) where
+  fits : fitsBehind at (length text) ≡ true
+  fits = fits-most at (length text) (omega (arith, spelled .place, most, room))
+
+  pub behind-place : after ≡ placeAfter at (length text)
+  behind-place = place-behind at (length text) true (sym fits) after refl (spelled .place)
+
+  pub behind-block : last ≡ blockAfter block at text
+  behind-block = block-behind block text at true (sym fits) last refl (spelled .bytes)
+
+-- a line that was spelled at the front of a block, and taken out of it
+pub taken-out : (block text last : List ℕ) (after : ℕ) → Spelled block 0 text last after → betweenOf last 0 after ≡ text
+unfolding betweenOf
+taken-out block text last after spelled =
+    let size = spelled-size spelled in
+    let inside : after ≤ length last = omega (arith, size, spelled .place, spelled .fits) in
+    rw (le-leb 0 after (omega arith), le-leb after (length last) inside)
+    (ap (λ (n : ℕ). take n last) {x = after - 0} {y = 0 + length text} (omega (arith, spelled .place))
+    ∙ ap (take (0 + length text)) (spelled .bytes)
+    ∙ behind block text 0 (omega arith))

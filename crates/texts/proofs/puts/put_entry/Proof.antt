@@ -1,31 +1,24 @@
--- The room, the text and the line end. Assumes nothing.
-use native.Mathlib.Omega.{arith}
-use Rattle.lines.proofs.Spellings.{then}
-use Rattle.texts.proofs.Choices.{room-line, line-place, line-block}
+-- Apart, or in its place. Assumes nothing.
+use mathlib.Core.Path.{refl}
+use Rattle.texts.proofs.Choices.{behind-place, behind-block}
 use borrow.Author.Needs.{needs}
 use Rattle.texts.proofs.puts.put_entry.Statement.{statement}
 use Rattle.texts.proofs.puts.put_entry.Tie as tie
 
-with-room-requires : tie.Need-with-room-requires
-with-room-requires c κs = search needs
-
-spell-entry-requires : tie.Need-spell-entry-requires
-spell-entry-requires c κs =
-    let room = room-line _ _ (c .before .with-room .ensures .0) in
-    omega (arith, room)
-
-spell-byte-requires : tie.Need-spell-byte-requires
-spell-byte-requires c κs =
-    let told = c .before .spell-entry .ensures in
-    let room = room-line _ _ (c .before .before .before .with-room .ensures .0) in
-    omega (arith, room, told .1)
+put-apart-requires : tie.Need-put-apart-requires
+put-apart-requires c κs = search needs
 
 returns : tie.Need-returns
-returns c =
-    let room = c .before .before .before .before .with-room .ensures in
-    let told = c .before .before .spell-entry .ensures in
-    let spelled = then (told .0) (c .spell-byte .ensures) in
-    (line-place _ _ _ _ _ _ (room .0) spelled, (room .1 .0, (line-block _ _ _ _ _ _ (room .0) spelled, room .1 .1)))
+returns c = search needs
+
+spell-line-requires : tie.Need-spell-line-requires
+spell-line-requires c κs = search needs
+
+returns-2 : tie.Need-returns-2
+returns-2 c =
+    let line = c .spell-line .ensures in
+    let room = c .before .before .if1 .left in
+    (behind-place _ _ _ _ _ (line .0) (line .1) room, (refl, (behind-block _ _ _ _ _ (line .0) (line .1) room, λ h. h)))
 
 pub put-entry-spec : {M : Type 1} → statement M
-put-entry-spec = tie.close (tie.spec with-room-requires spell-entry-requires spell-byte-requires returns)
+put-entry-spec = tie.close (tie.spec put-apart-requires returns spell-line-requires returns-2)
