@@ -308,7 +308,7 @@ module _ (s : State) (a : Answer) (fits : Fits s a) where
         let near = spaced_apart c.time.0 second.time.0 (second_parts c second asked.directly).1 in
         rw (
           ne_eqb second.time.0 c.time.0 (λ e. omega (arith, e, near.0)),
-          ne_eqb status.time.0 second.time.0 (λ e. omega (arith, e, heard.answered.not-early)),
+          ne_eqb status.time.0 second.time.0 (λ e. omega (arith, e, heard.answered.not_early)),
           data_twins s.message.bus status ds (answer_heard a) heard.spaced (answer_twins (last_in status ds) between_last),
         )
 

@@ -100,7 +100,7 @@ module _ (s : State) (second status : WordRecord) (ds : List WordRecord) (sent :
 
   -- it comes after the second command, and its last word not before its status
   pub sent_later : second.time.0 ≤ s.message.last.0
-  sent_later = omega (arith, sent_last, words_later s.message.bus ds status.time.0 sent.spaced, sent.answered.not-early)
+  sent_later = omega (arith, sent_last, words_later s.message.bus ds status.time.0 sent.spaced, sent.answered.not_early)
 
   -- its words are taken, where those behind are
   pub sent_taken : (until : Moment) (rs : List WordRecord) → s.message.bus ≤ last_bus → on_clock until.0 ≡ true → s.message.last.0 ≤ until.0
@@ -110,7 +110,7 @@ module _ (s : State) (second status : WordRecord) (ds : List WordRecord) (sent :
       let plan : Plan = plan_between s second until in
       let later = words_later s.message.bus ds status.time.0 sent.spaced in
       let first =
-      word_taken plan bus clock second.time.0 status sent.answered.valid sent.bus (omega (arith, sent.answered.not-early))
+      word_taken plan bus clock second.time.0 status sent.answered.valid sent.bus (omega (arith, sent.answered.not_early))
       (omega (arith, later, sent_last, in_time_lem)) in (
         first.0,
         first.1,

@@ -1,6 +1,8 @@
 // What the C bench program calls (01: "must also be callable from the C bench program on numbers and bytes"). Each function wraps one
 // of `words`, `records` or `verdict` and says the same definition. Nothing is allocated, nothing is kept between calls, every call returns for any
 // argument. A call that may be refused gives the refusal's number, or 0. Types for C: include/buscard.h.
+#![tactic(auto)]
+
 ghost use Rattle.std.specs.Prelude.{◌≡◌};
 ghost use Rattle.buscard.specs.Answers.{one_if, spacing_number, record_of, field_or, count_or, count_refusal, plan_of};
 ghost use Rattle.records.specs.Records.{last_bus, read_of, refusal_of, write_refusal, written_of};

@@ -7,7 +7,7 @@ use lines::Block;
 use monitor::{Choice, choose};
 
 // What goes from entry to entry: the two readings, the lines so far, and whether the log is over.
-#[derive(Drop)]
+#[derive(Clone, Copy)]
 pub(crate) struct Dump {
     pub(crate) first: Reader,
     pub(crate) second: Reader,
@@ -17,7 +17,7 @@ pub(crate) struct Dump {
 
 // How a dump ended: the lines, whether a read failed, whether both readings came to the same end, and that of the first: the number of the
 // refusal, 0 at the end of the file, and how many records were read.
-#[derive(Drop)]
+#[derive(Clone, Copy)]
 pub(crate) struct Ending {
     pub(crate) tally: Tally,
     pub(crate) unread: bool,

@@ -1,5 +1,7 @@
 // busdump FILE..: prints the log of whole messages of each record file (02 a). Thin over `monitor`: arguments, files, bytes out.
 // Refusals: 8 of a file, 3, 4, 5, 6 of a record, in the line that closes the file and in words on standard error, as is what cannot be opened or read.
+#![tactic(auto)]
+
 mod complaints;
 mod dumps;
 mod options;

@@ -12,7 +12,7 @@ pub(crate) const BUS_A: u8 = 0;
 pub(crate) const BUS_B: u8 = 1;
 
 // What is asked for, and whether the times of it were given; then the places of the first argument, of the one behind the options and of the first file.
-#[derive(Drop)]
+#[derive(Clone, Copy)]
 pub(crate) struct Options {
     pub(crate) wanted: Wanted,
     pub(crate) begin: usize,
@@ -24,7 +24,7 @@ pub(crate) struct Options {
 }
 
 // What a call asks for.
-#[derive(Drop)]
+#[derive(Clone, Copy)]
 pub(crate) enum Call {
     Help,
     NoFile,
@@ -33,7 +33,7 @@ pub(crate) enum Call {
 }
 
 // What an argument is where an option may stand.
-#[derive(Drop)]
+#[derive(Clone, Copy)]
 enum Argument {
     Bus,
     Address,
@@ -48,7 +48,7 @@ enum Argument {
 }
 
 // What one argument, with its value, led to.
-#[derive(Drop)]
+#[derive(Clone, Copy)]
 enum Step {
     More(Options),
     Files(Options),

@@ -9,7 +9,7 @@ use windows::Window;
 use words::Refusal;
 
 // A reading: its own descriptor of the file, the side, which bytes of the chunk wait, and whether a read has failed.
-#[derive(Drop)]
+#[derive(Clone, Copy)]
 pub(crate) struct Reader {
     pub(crate) fd: i32,
     pub(crate) side: Side,
@@ -18,7 +18,7 @@ pub(crate) struct Reader {
 }
 
 // How a reading begins: behind the version, refused with so many bytes in the chunk, or with a read that failed.
-#[derive(Drop)]
+#[derive(Clone, Copy)]
 pub(crate) enum Begun {
     Behind(Reader),
     Refused(Refusal, usize),

@@ -13,7 +13,7 @@ use texts::put_log_refused;
 use words::Refusal;
 
 // A file that is closed: where the next one's lines go, and whether all of it was read and listed.
-#[derive(Drop)]
+#[derive(Clone, Copy)]
 struct Closed {
     listed: Sink,
     well: bool,

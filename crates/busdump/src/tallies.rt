@@ -8,7 +8,7 @@ use texts::{put_entry, put_log_end, put_log_refused};
 use words::Refusal;
 
 // Where the lines go, how many entries there were, and how many records they have.
-#[derive(Drop)]
+#[derive(Clone, Copy)]
 pub(crate) struct Tally {
     pub(crate) listed: Sink,
     pub(crate) entries: u64,

@@ -8,7 +8,7 @@ use std::num::wrapping_add_usize;
 const NO_PLACE: usize = usize::MAX;
 
 // The options, and the place of the argument behind those that were looked at: of FILE, in the end. That of OUT is NO_PLACE where there is none.
-#[derive(Drop)]
+#[derive(Clone, Copy)]
 pub(crate) struct Options {
     pub(crate) in_words: bool,
     pub(crate) out: usize,
@@ -16,7 +16,7 @@ pub(crate) struct Options {
 }
 
 // What a call asks for: the usage, nothing that is clear, nothing since an argument is wrong, or a plan.
-#[derive(Drop)]
+#[derive(Clone, Copy)]
 pub(crate) enum Call {
     Help,
     Unclear,
@@ -25,7 +25,7 @@ pub(crate) enum Call {
 }
 
 // What an argument is where an option may stand.
-#[derive(Drop)]
+#[derive(Clone, Copy)]
 enum Argument {
     InWords,
     Out,
@@ -36,7 +36,7 @@ enum Argument {
 }
 
 // What one argument, with its value, led to.
-#[derive(Drop)]
+#[derive(Clone, Copy)]
 enum Step {
     More(Options),
     File(Options),

@@ -1,6 +1,8 @@
 // busplan [-v] [-o OUT] FILE: checks a schedule of messages, or proposes the first frames where one is missing (02 j). Thin over `schedule`
 // and `plans`: arguments, lines out, and a file where one is asked for. Refusals: 15, in the line that closes the lines. Whatever is not accepted,
 // and what cannot be opened, read, made or written, is said on standard error.
+#![tactic(auto)]
+
 mod arguments;
 mod complaints;
 mod explanations;

@@ -2,7 +2,7 @@
 use plans::Reading;
 
 // A plan as far as it was read, and whether a read has failed.
-#[derive(Drop)]
+#[derive(Clone, Copy)]
 pub(crate) struct Source {
     pub(crate) reading: Reading,
     pub(crate) failed: bool,

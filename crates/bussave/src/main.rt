@@ -1,6 +1,8 @@
 // bussave DAMAGED CLEAN: saves what is whole of a damaged record file (02 c). It lists each run of bytes that it skips on standard output
 // and writes the kept records to CLEAN, a file that it makes. Thin over `salvage`: arguments, files, bytes out.
 // Refusals: none; any bytes are taken. What cannot be opened, read, made or written is said on standard error.
+#![tactic(auto)]
+
 mod complaints;
 mod runs;
 mod savings;

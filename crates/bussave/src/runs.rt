@@ -11,7 +11,7 @@ use status::Status;
 use texts::{put_run, put_save_end};
 
 // What stopped a saving before the end of the file.
-#[derive(Drop)]
+#[derive(Clone, Copy)]
 enum Fault {
     None,
     Lines,
@@ -20,7 +20,7 @@ enum Fault {
 }
 
 // What closing the clean file shows: it is whole, it has not the bytes of the records that were kept, or the system refused.
-#[derive(Drop)]
+#[derive(Clone, Copy)]
 enum Closed {
     Whole,
     Short,

@@ -16,7 +16,7 @@ pub(crate) type Room = [u8; ROOM_BYTES];
 
 // What goes from chunk to chunk: what the last read answered, the machine, where lines and records go, how many bytes were read, and the records that were
 // skipped for their time.
-#[derive(Drop)]
+#[derive(Clone, Copy)]
 pub(crate) struct Saving {
     pub(crate) got: isize,
     pub(crate) salvage: Salvage,

@@ -9,7 +9,7 @@ use std::num::{wrapping_add_u64, wrapping_add_usize, wrapping_sub_u64};
 use words::Moment;
 
 // How many there are of a kind, and the place of the first in the damaged file.
-#[derive(Drop)]
+#[derive(Clone, Copy)]
 pub(crate) struct Kind {
     count: u64,
     first: u64,
@@ -17,7 +17,7 @@ pub(crate) struct Kind {
 
 // Those that come too late and those that come too early after the last kept record, and the place up to which the latest of them reaches: the places inside it are
 // not looked at.
-#[derive(Drop)]
+#[derive(Clone, Copy)]
 pub(crate) struct Strays {
     late: Kind,
     early: Kind,

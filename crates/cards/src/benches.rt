@@ -13,7 +13,7 @@ pub(crate) type Table = [u16; 2048];
 
 pub(crate) type Buffer = [u8; 65536];
 
-#[derive(Drop)]
+#[derive(Clone, Copy)]
 pub(crate) struct Bench {
     // masks for later set-ups, with what a line can lend past those of the subaddresses
     pub(crate) receive_masks: [u32; 64],
@@ -28,7 +28,7 @@ pub(crate) struct Bench {
 }
 
 // What a call gives that leaves the terminal as it is: the bench after it, and what is to be written.
-#[derive(Drop)]
+#[derive(Clone, Copy)]
 pub(crate) struct Done {
     pub(crate) bench: Bench,
     pub(crate) reply: Reply,

@@ -3,7 +3,7 @@ use crate::numbers::number_of;
 use crate::parts::{next_start, part_end};
 use lines::{Number, between};
 
-#[derive(Drop)]
+#[derive(Clone, Copy)]
 pub(crate) enum Name {
     Word,
     Mark,
@@ -48,7 +48,7 @@ impl Name {
 }
 
 // A call: its name, and its numbers in the order of the line.
-#[derive(Drop)]
+#[derive(Clone, Copy)]
 pub(crate) struct Call {
     pub(crate) name: Name,
     pub(crate) numbers: [u64; 7],
@@ -143,7 +143,7 @@ pub(crate) fn is_named(text: &[u8], form: [u8; 16]) -> bool {
 }
 
 // The numbers of a line, and whether it has those that a form asks for and no more.
-#[derive(Drop)]
+#[derive(Clone, Copy)]
 struct Numbers {
     good: bool,
     values: [u64; 7],

@@ -3,14 +3,14 @@ use crate::calls::is_named;
 use lines::{NO_DIGIT, read_digit};
 
 // How long the buffer is with the bytes of a line at its end, or that these are no bytes or have no room.
-#[derive(Drop)]
+#[derive(Clone, Copy)]
 pub(crate) enum Filled {
     To(usize),
     None,
 }
 
 // The bytes of a line on their way into the buffer: where the next goes, the first digit of one that is cut, and whether all was good so far.
-#[derive(Drop)]
+#[derive(Clone, Copy)]
 struct Filling {
     place: usize,
     high: u8,

@@ -2,7 +2,7 @@
 use std::num::wrapping_add_u64;
 
 // What is known of the line so far.
-#[derive(Drop)]
+#[derive(Clone, Copy)]
 pub(crate) struct Gathering {
     // its number, counted from 1
     pub(crate) number: u64,

@@ -1,6 +1,8 @@
 // cards: reads a bench script on standard input and writes one line for each call to standard output (docs/BENCH.md; 01 Bench cards).
 // Thin over `terminal`, `verdict` and `records`: here are only lines, numbers and places. Any bytes may come in. What is no call, and what
 // cannot be read or written, is said on standard error.
+#![tactic(auto)]
+
 mod benches;
 mod calls;
 mod complaints;

@@ -5,7 +5,7 @@ use crate::usages::put_wanted;
 use libc::STDERR_FILENO;
 use lines::{Block, Sink, between, part_end};
 
-#[derive(Drop)]
+#[derive(Clone, Copy)]
 pub(crate) enum Reason {
     // it has no form of a call: the line itself tells whether its name or its parts are wrong
     Form,

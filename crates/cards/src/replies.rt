@@ -8,7 +8,7 @@ use verdict::Verdict;
 use words::Refusal;
 
 // What is to be written of a call.
-#[derive(Drop)]
+#[derive(Clone, Copy)]
 pub(crate) enum Reply {
     Ok,
     Refused(Refusal),
@@ -149,7 +149,7 @@ fn put_words(sink: Sink, out: &mut Block, words: &[u16]) -> Sink {
 }
 
 // A line with one number at most, which spaces fill up, and that number.
-#[derive(Drop)]
+#[derive(Clone, Copy)]
 struct Short {
     line: [u8; 9],
     value: u64,

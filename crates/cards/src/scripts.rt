@@ -21,7 +21,7 @@ pub(crate) type Line = [u8; 262144];
 // What a block leaves to the next: the terminal, the bench, where the output goes, and the line that the block may cut; then whether a
 // line was no call, whether there may be more to read, and whether a read or a write failed. It is one struct and not one in another: each
 // that holds the terminal costs in every step of a proof.
-#[derive(Drop)]
+#[derive(Clone, Copy)]
 pub(crate) struct Run {
     pub(crate) terminal: Terminal,
     pub(crate) bench: Bench,

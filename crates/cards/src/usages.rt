@@ -97,7 +97,7 @@ fn put_form(sink: Sink, block: &mut Block, call: &[u8], name: &[u8], again: bool
 }
 
 // What was put of a name, and whether it is that of a call.
-#[derive(Drop)]
+#[derive(Clone, Copy)]
 pub(crate) struct Wanted {
     pub(crate) sink: Sink,
     pub(crate) known: bool,

@@ -1,5 +1,7 @@
 // A course of calls from bytes, played on one terminal: the bench times it and holds its sum to plain C's (bench/course.c). Nothing of the card
 // calls it. Proved: it is safe and ends for any bytes, and leaves them as they are, to which their type holds it too. Refusals: none.
+#![tactic(auto)]
+
 ghost use Rattle.std.specs.Prelude.{◌≡◌};
 
 use records::{LAST_BUS, Read, WordRecord, read_record};

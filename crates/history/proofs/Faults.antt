@@ -151,10 +151,10 @@ by_time_over s t transmit = go (is_due s.message t) refl
 
     over : (b : Bool) → is_over s.message t ≡ b → MadeFaulty s (rule2 s t) → Fact
     over true is made = (made.marked, is)
-    over false is made = no_fault_lem s s made.kind made.under-way (rw is at made.faulty)
+    over false is made = no_fault_lem s s made.kind made.under_way (rw is at made.faulty)
 
     go : (b : Bool) → is_due s.message t ≡ b → MadeFaulty (rule1 s t transmit) (rule2 (rule1 s t transmit) t) → Fact
-    go true due made = false≢ (rw due at made.under-way)
+    go true due made = false≢ (rw due at made.under_way)
     go false not_due made = over (is_over s.message t) refl (rw (not_settled s t transmit not_due) at made)
 
 -- by its word: a next word leaves the message under way
@@ -191,15 +191,15 @@ by_word_bad s r kind on same = go (rule3 s r) refl (is_own s.setup.own r) refl (
 
 by_event_bad : (s : State) (e : Event) (transmit : List ℕ) → MadeFaulty (passed_of s (time_of e) transmit) (taken_of (passed_of s (time_of e) transmit) e)
     → has_bad_word (passed_of s (time_of e) transmit) e ≡ true
-by_event_bad s (Mark t) transmit made = no_fault_lem (passed_of s t.0 transmit) (passed_of s t.0 transmit) made.kind made.under-way made.faulty
-by_event_bad s (Word r) transmit made = by_word_bad (passed_of s r.time.0 transmit) r made.kind made.under-way made.faulty
+by_event_bad s (Mark t) transmit made = no_fault_lem (passed_of s t.0 transmit) (passed_of s t.0 transmit) made.kind made.under_way made.faulty
+by_event_bad s (Word r) transmit made = by_word_bad (passed_of s r.time.0 transmit) r made.kind made.under_way made.faulty
 
 comes_marked : (s : State) (e : Event) (transmit : List ℕ) → ComesToFault s e transmit → marks_fault s e transmit ≡ true
 comes_marked s e transmit (by_time made) =
     let over = by_time_over s (time_of e) transmit made in
     rw (over.0, fault_either s e transmit, over.1)
 comes_marked s e transmit (by_word made) =
-    let plain : is_exempt s.setup.own s.message.command.0 ≡ false = rw (passed_still s (time_of e) transmit made.under-way) at made.marked in
+    let plain : is_exempt s.setup.own s.message.command.0 ≡ false = rw (passed_still s (time_of e) transmit made.under_way) at made.marked in
     rw (plain, fault_either s e transmit, by_event_bad s e transmit made) (or-true (is_over s.message (time_of e)))
 
 pub fault_exactly : FaultExactly

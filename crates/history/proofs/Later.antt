@@ -80,7 +80,7 @@ run_since t s (k ∷ ks) h none = run_since t (step s k) ks (call_since t s k h 
 answer_later : (t : ℕ) (s : State) (k : Call) → Since t s → (answer_in s k).given ≡ true → t + due_distance ≤ (answer_in s k).due.0
 answer_later t s k h given =
     let of = given_message s k given in
-    omega (arith, h.message of.under-way, of.due)
+    omega (arith, h.message of.under_way, of.due)
 
 pub answers_later : (t : ℕ) (s : State) (ks : List Call) (k : Call) → Since t s → NoSetUp s ks → (answer_in (run s ks) k).given ≡ true
     → t + due_distance ≤ (answer_in (run s ks) k).due.0

@@ -80,7 +80,7 @@ module _ (s : State) (r : WordRecord) (receive transmit : List ℕ) (ks : List C
   tracked =
       let begun : (step s (event (Word r) receive transmit)).message ≡ begun_of r = (own_begins s r receive transmit w.accepted w.own w.quiet).message in
       run_holds (Tracked r) (λ on. false≢ on) (staged_tracked r) (moved_tracked r) (step s (event (Word r) receive transmit)) ks
-      (rw begun (begun_tracked r)) w.alone w.under-way
+      (rw begun (begun_tracked r)) w.alone w.under_way
 
 -- ---- a message that awaits its first data word
 
@@ -121,7 +121,7 @@ unfolding rule1_receive
 never_waits_longer s r receive transmit ks w e receive' transmit' ok past =
     let x : State = run (step s (event (Word r) receive transmit)) ks in
     let tracks = tracked s r receive transmit ks w in
-    let over = first_over r x.message tracks w.under-way w.none w.awaits (time_of e) past in
+    let over = first_over r x.message tracks w.under_way w.none w.awaits (time_of e) past in
     let plain : is_exempt x.setup.own x.message.command.0 ≡ false =
     rw tracks.asked (receives_plain x.setup.own r.word (awaits_receives r.word w.awaits)) in
     let not_due = over_not_due x.message (time_of e) over in
@@ -172,7 +172,7 @@ module _ (s : State) (r : WordRecord) (receive transmit : List ℕ) (ks : List C
   told_while : moment_in (run (step s (event (Word r) receive transmit)) ks) ≡ moment_while its.phase r.time.0 its.last.0
   told_while =
       run_keeps (step s (event (Word r) receive transmit)) ks (own_keeps s r receive transmit w.accepted w.own w.quiet)
-      ∙ sym (at_phase_lem its its.phase (awaited_moment its.phase its) (missing r its (tracked s r receive transmit ks w) w.under-way w.none w.awaits) refl refl)
+      ∙ sym (at_phase_lem its its.phase (awaited_moment its.phase its) (missing r its (tracked s r receive transmit ks w) w.under_way w.none w.awaits) refl refl)
       ∙ while its.phase refl
 
 pub wait_exactly : WaitExactly
@@ -189,4 +189,4 @@ while_most Data start last under = record { moment = _; told = refl; most = omeg
 pub wait_is_told : WaitIsTold
 wait_is_told s r receive transmit ks w =
     let m : Message = its s r receive transmit ks w in
-    rw (told_while s r receive transmit ks w) (while_most m.phase r.time.0 m.last.0 w.under-way)
+    rw (told_while s r receive transmit ks w) (while_most m.phase r.time.0 m.last.0 w.under_way)

@@ -116,7 +116,7 @@ withheld_answer s k h = go (answer_cases s k)
   where
     go : {a : Answer} → Given s a → a ≡ no_answer
     go none = refl
-    go (some of) = unfold is_withheld in true≢ (rw (h of.under-way) at of.shown)
+    go (some of) = unfold is_withheld in true≢ (rw (h of.under_way) at of.shown)
 
 pub fresh_silent : FreshSilent
 fresh_silent setup above ks unset k = withheld_answer (run (fresh_of setup) ks) k (run_to_all (fresh_of setup) ks above unset none_to_all)

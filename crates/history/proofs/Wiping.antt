@@ -101,7 +101,7 @@ standing_reported s st few r receive transmit k exempt ks end course e receive' 
 standing_said : {setup : Setup} {status : ℕ} (s : State) → Standing setup status s → (k : Call) → (answer_in s k).given ≡ true → (answer_in s k).status.0 ≡ status
 standing_said s st k given =
     let of = given_message s k given in
-    of.status ∙ exempt_settled s s.message.command.0 (rw st.same (st.passing of.under-way)) ∙ st.holds
+    of.status ∙ exempt_settled s s.message.command.0 (rw st.same (st.passing of.under_way)) ∙ st.holds
 
 standing_stands : {setup : Setup} {status : ℕ} (s : State) → Standing setup status s → setup.own.address ≤ 30 → Stands s status
 standing_stands s st few = record { held = st.holds; says = standing_said s st; answers = standing_reported s st few }

@@ -123,19 +123,19 @@ counting_more number count power h l m = record {
   power_is =
       omega (
         arith,
-        h.power-is,
+        h.power_is,
         pow-suc 10 count,
         ap (λ (k : ℕ). 10 ^ k) {x = suc count} {y = count + 1} (omega arith),
       );
-  too_few = λ _. omega (arith, h.power-is, m, ap (λ (k : ℕ). 10 ^ k) {x = count + 1 - 1} {y = count} (omega arith));
+  too_few = λ _. omega (arith, h.power_is, m, ap (λ (k : ℕ). 10 ^ k) {x = count + 1 - 1} {y = count} (omega arith));
 }
 
 pub power_room : (number count power : ℕ) → Counting number count power → count < 19 → power * 10 < 2 ^ 64
-power_room number count power h l = omega (arith, h.power-is, power_most count (omega (arith, l)))
+power_room number count power h l = omega (arith, h.power_is, power_most count (omega (arith, l)))
 
 pub counted : (number count power : ℕ) → Counting number count power → number < power → IsDigitCount 10 1 number count × (count ≤ 20)
 counted number count power h l =
-    ((h.least, omega (arith, l, h.power-is), h.too_few), omega (arith, h.most))
+    ((h.least, omega (arith, l, h.power_is), h.too_few), omega (arith, h.most))
 
 -- the power of the last count is asked behind the loop
 pub counted_last : (number count power : ℕ) → Counting number count power → 19 ≤ count → number < power → IsDigitCount 10 1 number 19 × (19 ≤ 20)
@@ -145,7 +145,7 @@ counted_last number count power h e l =
 pub counted_most : (number count power : ℕ) → Counting number count power → 19 ≤ count → power ≤ number → number < 2 ^ 64
     → IsDigitCount 10 1 number 20 × (20 ≤ 20)
 counted_most number count power h e l fits =
-    let last : power ≡ 10 ^ 19 = h.power-is ∙ ap (λ (k : ℕ). 10 ^ k) {x = count} {y = 19} (omega (arith, h.most, e)) in
+    let last : power ≡ 10 ^ 19 = h.power_is ∙ ap (λ (k : ℕ). 10 ^ k) {x = count} {y = 19} (omega (arith, h.most, e)) in
     ((omega arith, omega (arith, fits), λ _. omega (arith, last, l)), omega arith)
 
 -- the last digits stand from a place on, and the others are left
@@ -185,7 +185,7 @@ filling_more block₀ at number count block left i h l =
       left_is = ap (λ (n : ℕ). n / 10) h.left_is ∙ tenths_more k number ∙ ap (λ (n : ℕ). tenths n number) next;
       block_is =
           ap (λ (b : List ℕ). set b (at + (i - 1)) (48 + left % 10))
-          (h.block-is ∙ ap (λ (n : ℕ). put_at block₀ n (last_digits 10 k number)) place)
+          (h.block_is ∙ ap (λ (n : ℕ). put_at block₀ n (last_digits 10 k number)) place)
           ∙ before
           ∙ ap (put_at block₀ (at + (i - 1)))
           (ap (λ (n : ℕ). (48 + n % 10) ∷ last_digits 10 k number) h.left_is ∙ digits_front k number ∙ ap (λ (n : ℕ). last_digits 10 n number) next);
@@ -212,7 +212,7 @@ filling_two block₀ at number count block left i h l =
 pub filled : (block₀ : List ℕ) (at number count : ℕ) (block : List ℕ) (left i : ℕ) → Filling block₀ at number count block left i → i ≤ 0
     → block ≡ put_at block₀ at (last_digits 10 count number)
 filled block₀ at number count block left i h l =
-    h.block-is
+    h.block_is
     ∙ ap₂ (λ (p k : ℕ). put_at block₀ p (last_digits 10 k number)) {x = at + i} {y = at} {u = count - i} {v = count} (omega (arith, l)) (omega (arith, l))
 
 -- the first digit, where it is left alone

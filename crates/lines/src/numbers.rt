@@ -16,7 +16,7 @@ const HEXADECIMAL_MOST: usize = 16;
 pub const NO_DIGIT: u8 = 16;
 
 // The number that a text spells, or that it spells none.
-#[derive(Drop)]
+#[derive(Clone, Copy)]
 pub enum Number {
     Is(u64),
     None,

@@ -13,7 +13,7 @@ pub type Block = [u8; 65536];
 const BLOCK_BYTES: usize = 65536;
 
 // Where bytes go, how many wait in the block, and whether a write has failed: then the others are dropped.
-#[derive(Drop)]
+#[derive(Clone, Copy)]
 pub struct Sink {
     pub fd: i32,
     pub at: usize,

@@ -143,18 +143,18 @@ module _ (a : Side) (us : List ℕ) (b : Side) (vs : List ℕ)
     (again : (a' : Side) (us' : List ℕ) (b' : Side) (vs' : List ℕ) → left_of a' us' + left_of b' vs' < left_of a us + left_of b vs → Finishes a' us' b' vs') where
   finishes_by : (c : Choice) → choice_of (ready_of a) (ready_of b) ≡ c → Finishes a us b vs
   finishes_by FeedFirst h =
-      let feeds = (goes_on_lem a b us vs).first-fed h in
+      let feeds = (goes_on_lem a b us vs).first_fed h in
       feeds_first h (λ chunk rest parts l. again (fed_of a chunk).side (drop (fed_of a chunk).taken us) b vs (omega (arith, feeds.fed chunk rest parts l)))
       (λ few. again (ended_by a us) [] b vs (omega (arith, feeds.ended few)))
   finishes_by FeedSecond h =
-      let feeds = (goes_on_lem a b us vs).second-fed h in
+      let feeds = (goes_on_lem a b us vs).second_fed h in
       feeds_second h (λ chunk rest parts l. again a us (fed_of b chunk).side (drop (fed_of b chunk).taken vs) (omega (arith, feeds.fed chunk rest parts l)))
       (λ few. again a us (ended_by b vs) [] (omega (arith, feeds.ended few)))
   finishes_by GiveFirst h =
-      let gives = (goes_on_lem a b us vs).first-given h in
+      let gives = (goes_on_lem a b us vs).first_given h in
       gives_first gives.found.0 h gives.found.1 (again (given_of a) us b vs (omega (arith, gives.given)))
   finishes_by GiveSecond h =
-      let gives = (goes_on_lem a b us vs).second-given h in
+      let gives = (goes_on_lem a b us vs).second_given h in
       gives_second gives.found.0 h gives.found.1 (again a us (given_of b) vs (omega (arith, gives.given)))
   finishes_by Over h = finished h
 

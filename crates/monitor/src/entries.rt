@@ -8,14 +8,14 @@ use verdict::{Plan, Verdict};
 use words::{COMMAND_SYNC, CommandWord, DATA_SYNC, Moment, StatusWord, Ticks};
 
 // The command words of a message: a second one between two terminals.
-#[derive(Drop)]
+#[derive(Clone, Copy)]
 pub enum Commands {
     One(CommandWord),
     Two(CommandWord, CommandWord),
 }
 
 // "statuses (its other valid words with command sync)"
-#[derive(Drop)]
+#[derive(Clone, Copy)]
 pub enum Statuses {
     None,
     One(StatusWord),
@@ -23,7 +23,7 @@ pub enum Statuses {
 }
 
 // "the gap before the first status": none without a status; below 0, by so many ticks, where it comes before the middle of the parity bit of the word before it.
-#[derive(Drop)]
+#[derive(Clone, Copy)]
 pub enum Gap {
     None,
     Apart(Ticks),
@@ -31,7 +31,7 @@ pub enum Gap {
 }
 
 // "the verdict that the controller rules give, or "none""
-#[derive(Drop)]
+#[derive(Clone, Copy)]
 pub enum Outcome {
     None,
     Given(Verdict),
@@ -39,7 +39,7 @@ pub enum Outcome {
 
 // "Each entry has bus, time, command words, statuses .., numbers of valid data words and of records, the gap before the first status, and the
 // verdict"
-#[derive(Drop)]
+#[derive(Clone, Copy)]
 pub struct Message {
     pub bus: u8,
     pub time: Moment,
@@ -52,14 +52,14 @@ pub struct Message {
 }
 
 // "A record outside any message is an entry of its own, kept whole"
-#[derive(Drop)]
+#[derive(Clone, Copy)]
 pub enum Entry {
     Message(Message),
     Single(WordRecord),
 }
 
 // An entry with the place of its first record in the file, counted from 0 in records.
-#[derive(Drop)]
+#[derive(Clone, Copy)]
 pub struct Logged {
     pub place: u64,
     pub entry: Entry,

@@ -12,7 +12,7 @@ use verdict::Verdict;
 use words::{CommandWord, Moment, StatusWord, Ticks};
 
 // The words with command sync of a message that is open: its command words, its statuses, and the gap before the first of these.
-#[derive(Drop)]
+#[derive(Clone, Copy)]
 pub struct Heads {
     pub commands: Commands,
     pub statuses: Statuses,
@@ -21,7 +21,7 @@ pub struct Heads {
 
 // A message that is open: the entry so far; how many of the controller's own data words are still to come, and whether one of them was bad;
 // how many records were returned, and the first fact that they showed.
-#[derive(Drop)]
+#[derive(Clone, Copy)]
 pub struct Opening {
     pub bus: u8,
     pub time: Moment,
@@ -38,7 +38,7 @@ pub struct Opening {
 
 // What a record of its bus is to an open message: too far behind it; the start of another; its second command; a status that it expects; or any
 // other record that belongs to it.
-#[derive(Drop)]
+#[derive(Clone, Copy)]
 pub(crate) enum Part {
     Far,
     Starts,

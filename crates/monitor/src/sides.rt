@@ -8,14 +8,14 @@ use records::RECORD_BYTES;
 use words::Refusal;
 
 // The side after a chunk, and how many bytes of the chunk it took.
-#[derive(Drop)]
+#[derive(Clone, Copy)]
 pub struct Fed {
     pub side: Side,
     pub taken: usize,
 }
 
 // What a side is ready for: more of the file, to give the entry that waits, whose first record has that place, or nothing more.
-#[derive(Drop)]
+#[derive(Clone, Copy)]
 pub(crate) enum Ready {
     Feed,
     Give(u64),
@@ -23,7 +23,7 @@ pub(crate) enum Ready {
 }
 
 // What is next: feed a side, give the entry that waits on it, or the log is over.
-#[derive(Drop)]
+#[derive(Clone, Copy)]
 pub enum Choice {
     FeedFirst,
     FeedSecond,

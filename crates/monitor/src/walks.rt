@@ -10,7 +10,7 @@ use std::num::wrapping_add_u64;
 use words::{Moment, Refusal, Ticks};
 
 // What stands open on the bus: nothing before its first record, then the latest record's entry. A single record is given once the next comes.
-#[derive(Drop)]
+#[derive(Clone, Copy)]
 pub enum Standing {
     Nothing,
     Single(WordRecord),
@@ -18,7 +18,7 @@ pub enum Standing {
 }
 
 // One bus's walk: how many records of the file were read, of either bus, and the time of the last; the place of the standing entry's first.
-#[derive(Drop)]
+#[derive(Clone, Copy)]
 pub struct Walk {
     pub bus: u8,
     pub records: u64,
@@ -28,21 +28,21 @@ pub struct Walk {
 }
 
 // An entry that closed, where one did.
-#[derive(Drop)]
+#[derive(Clone, Copy)]
 pub enum Found {
     Nothing,
     Entry(Logged),
 }
 
 // How far a walk is: it reads on, or it has come to the end of the file (no refusal) or to a record that is refused.
-#[derive(Drop)]
+#[derive(Clone, Copy)]
 pub enum Stop {
     Reading,
     Ended(Refusal),
 }
 
 // One bus's side of the log: its walk, the entry that waits to be given, and how far it is.
-#[derive(Drop)]
+#[derive(Clone, Copy)]
 pub struct Side {
     pub walk: Walk,
     pub found: Found,

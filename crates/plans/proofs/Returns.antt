@@ -289,16 +289,16 @@ module _ (schedule : Schedule) (firsts capacities : List ℕ) (w : Writable sche
   as_many_messages = length-take-le schedule.count schedule.messages (omega (arith, w.count, w.messages))
 
   enough : length (messages_in schedule) ≤ length firsts
-  enough = omega (arith, as_many_messages, w.count, w.firsts-all)
+  enough = omega (arith, as_many_messages, w.count, w.firsts_all)
 
   written : Taken empty_draft 1 (message_lines placed) (capacities_text capacities) capacities
-  written = capacities_taken capacities w.capacities-all w.capacities-fit empty_draft empty_room 1 (message_lines placed) empty_whole
+  written = capacities_taken capacities w.capacities_all w.capacities_fit empty_draft empty_room 1 (message_lines placed) empty_whole
 
   read_whole : plan_of (plan_text schedule firsts capacities) ≡ placed_all (begun capacities) written.last placed
   unfolding plan_of plan_text placed
   read_whole =
       written.same
-      ∙ messages_taken placed (begun capacities) written.last (begun_whole capacities) (placed_fit (messages_in schedule) firsts w.sayable w.firsts-fit)
+      ∙ messages_taken placed (begun capacities) written.last (begun_whole capacities) (placed_fit (messages_in schedule) firsts w.sayable w.firsts_fit)
 
   all_filled : Filled (begun capacities) (placed_all (begun capacities) written.last placed) placed
   unfolding placed
@@ -358,7 +358,7 @@ module _ (schedule : Schedule) (firsts capacities : List ℕ) (d : Draft) (many 
   same_check : frames.check_of d.schedule d.firsts d.capacities ≡ frames.check_of schedule firsts capacities
   same_check =
       let starts : take (length (messages_in d.schedule)) d.firsts ≡ take (length (messages_in schedule)) firsts =
-      ap (λ (n : ℕ). take n d.firsts) (ap length b.messages ∙ many) ∙ b.first-frames ∙ ap (λ (n : ℕ). take n firsts) (sym many) in
+      ap (λ (n : ℕ). take n d.firsts) (ap length b.messages ∙ many) ∙ b.first_frames ∙ ap (λ (n : ℕ). take n firsts) (sym many) in
       check_looks d.schedule d.firsts d.capacities
       ∙ ap (λ (n : ℕ). judged n (messages_in d.schedule) (frames.placed_of (messages_in d.schedule) (take (length (messages_in d.schedule)) d.firsts)) d.capacities) b.count
       ∙ ap₂ (λ (t : List ℕ) (c : List ℕ). judged schedule.count (messages_in d.schedule) (frames.placed_of (messages_in d.schedule) t) c) starts b.frames

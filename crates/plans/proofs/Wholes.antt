@@ -431,7 +431,7 @@ module _ (bytes : List ℕ) (on : ReadOn bytes) (line : List ℕ) (d : Draft) (g
     byte_goes : Goes g byte → ended_of (fed_of (reading_with d g true) (byte ∷ bytes)) ≡ draft_from d g.number (lines_from line (byte ∷ bytes))
     byte_goes go =
         let next = gathered g byte in
-        after byte (reading_with d next true) (byte_read_lem d g byte e ∙ good_gathered d next go.not-bad)
+        after byte (reading_with d next true) (byte_read_lem d g byte e ∙ good_gathered d next go.not_bad)
         ∙ on (line ++ (byte ∷ [])) d next go.good (λ rest. ap entry_of (append_assoc line (byte ∷ []) rest) ∙ so (byte ∷ rest) ∙ go.on rest)
         ∙ ap (λ (n : ℕ). draft_from d n (lines_from (line ++ (byte ∷ [])) bytes)) (number_stays g byte)
         ∙ sym (ap (draft_from d g.number) (line_longer line bytes byte e))

@@ -7,7 +7,7 @@ use crate::entries::{Entry, Fault};
 use schedule::{Frames, Message, Schedule};
 use std::num::wrapping_add_u64;
 
-#[derive(Drop)]
+#[derive(Clone, Copy)]
 pub struct Draft {
     pub schedule: Schedule,
     // of each message, and of the one that is too many

@@ -14,7 +14,7 @@ const COMMAND_DIGITS: usize = 4;
 const FRAMES: u64 = 64;
 
 // What is wrong with a line.
-#[derive(Drop)]
+#[derive(Clone, Copy)]
 pub enum Fault {
     None,
     Unknown,
@@ -28,7 +28,7 @@ pub enum Fault {
 }
 
 // What a line says: nothing, the capacity of all frames or of one, a message with its first frame or without, or what is wrong with it.
-#[derive(Drop)]
+#[derive(Clone, Copy)]
 pub enum Entry {
     Nothing,
     Capacities(u64),

@@ -13,7 +13,7 @@ use std::num::wrapping_add_u64;
 const LINE_MOST: usize = 64;
 
 // The bytes of a line that are kept: the first `length` of these.
-#[derive(Drop)]
+#[derive(Clone, Copy)]
 pub struct Kept {
     length: usize,
     line: [u8; 64],
@@ -22,7 +22,7 @@ pub struct Kept {
 }
 
 // What is known of a line so far.
-#[derive(Drop)]
+#[derive(Clone, Copy)]
 pub struct Gathering {
     kept: Kept,
     // its number, counted from 1

@@ -7,7 +7,7 @@ use crate::gatherings::Gathering;
 
 // What goes from chunk to chunk, which may cut a line, and whether there may be more. The first bad line ends the reading, as soon as it is known to be
 // one: it need not end.
-#[derive(Drop)]
+#[derive(Clone, Copy)]
 pub struct Reading {
     draft: Draft,
     gathering: Gathering,

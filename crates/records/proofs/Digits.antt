@@ -34,7 +34,7 @@ number_snoc acc (x ∷ xs) b = number_snoc (acc * 256 + x) xs b
 pub number_lt : {acc m : ℕ} (xs : List ℕ) → acc < m → Bytes xs → number_after acc xs < m * 256 ^ length xs
 unfolding number_after
 number_lt {acc} {m} [] l h = rw (pow-zero, mul-one) l
-number_lt {acc} {m} (x ∷ xs) l h = rw (pow-succ', ← mul_assoc) (number_lt xs (digits_lt l (h 0)) (λ i. h (suc i)))
+number_lt {acc} {m} (x ∷ xs) l h = rw (pow-succ', ← mul_assoc) (number_lt {acc = acc * 256 + x} {m = m * 256} xs (digits_lt l (h 0)) (λ i. h (suc i)))
 
 -- the bytes of a number that fits them spell it
 pub number_bytes : (n v : ℕ) → v < 256 ^ n → number_of (bytes_of n v) ≡ v

@@ -32,14 +32,14 @@ pub read_written : ReadWritten
 unfolding number_after
 read_written last r after fits =
     let s = form_of r ++ after in
-    let time : r.time.0 < 256 ^ 8 = omega (arith, in_range_time last r fits.in-range) in
+    let time : r.time.0 < 256 ^ 8 = omega (arith, in_range_time last r fits.ranged) in
     let back : record_at s ≡ r = rw (number_bytes 8 r.time.0 time, number_bytes 2 r.word fits.sixteen) in
-    (refused_exactly last s).no_other (omega arith) refl (ap (in_range last) back ∙ fits.in-range) ∙ ap Record back
+    (refused_exactly last s).no_other (omega arith) refl (ap (in_range last) back ∙ fits.ranged) ∙ ap Record back
 
 pub write_read : WriteRead
 unfolding written_of
 write_read r bytes fits l =
-    let none : write_refusal r bytes ≡ 0 = sym (written r bytes l refl fits.in-range) in
+    let none : write_refusal r bytes ≡ 0 = sym (written r bytes l refl fits.ranged) in
     (none, rw none (read_written last_bus r (drop 16 bytes) fits), rw none refl)
 
 -- ---- one form
@@ -48,7 +48,7 @@ write_read r bytes fits l =
 pub record Good (last : ℕ) (s : List ℕ) (r : WordRecord) : Type 0 where
   pub long : 16 ≤ length s
   pub length_right : number_of (take 2 s) ≡ 14
-  pub in_range_lem : in_range last (record_at s) ≡ true
+  pub ranged : in_range last (record_at s) ≡ true
   pub same : record_at s ≡ r
 
 good_by : (last : ℕ) (s : List ℕ) (r : WordRecord) (a b e : Bool) → ltb (length s) 16 ≡ a → eqb (number_of (take 2 s)) 14 ≡ b → in_range last (record_at s) ≡ e
@@ -57,7 +57,7 @@ good_by last s r true b e p q t h = let z : ◌≡◌ {A = ℕ} 0 1 = cc in absu
 good_by last s r false false e p q t h = let z : ◌≡◌ {A = ℕ} 0 1 = cc in absurd (omega arith)
 good_by last s r false true false p q t h = let z : ◌≡◌ {A = ℕ} 0 1 = cc in absurd (omega arith)
 good_by last s r false true true p q t h =
-    record { long = ltb-false (length s) 16 p; length_right = eqb-true (number_of (take 2 s)) 14 q; in_range_lem = t; same = cc }
+    record { long = ltb-false (length s) 16 p; length_right = eqb-true (number_of (take 2 s)) 14 q; ranged = t; same = cc }
 
 pub read_good : (last : ℕ) (s : List ℕ) (r : WordRecord) → read_of last s ≡ Record r → Good last s r
 unfolding read_of
@@ -100,7 +100,7 @@ spelled_form s l =
 pub only_form : OnlyForm
 only_form last bytes r h e =
     let g = read_good last bytes r e in
-    spelled_form bytes g.long h g.length-right ∙ ap form_of g.same
+    spelled_form bytes g.long h g.length_right ∙ ap form_of g.same
 
 -- a word of two bytes
 word_lt : (s : List ℕ) → 16 ≤ length s → Bytes s → number_of (take 2 (drop 13 s)) < 2 ^ 16
@@ -112,7 +112,7 @@ word_lt s l h =
 pub read_fits : ReadFits
 read_fits last bytes r h e =
     let g = read_good last bytes r e in
-    record { in_range_lem = ap (in_range last) (sym g.same) ∙ g.in-range; sixteen = subst (λ (x : WordRecord). x.word < 2 ^ 16) g.same (word_lt bytes g.long h) }
+    record { ranged = ap (in_range last) (sym g.same) ∙ g.ranged; sixteen = subst (λ (x : WordRecord). x.word < 2 ^ 16) g.same (word_lt bytes g.long h) }
 
 pub one_form : OneForm
 one_form last bytes others r h k e f = only_form last bytes r h e ∙ sym (only_form last others r k f)

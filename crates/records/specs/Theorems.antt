@@ -18,7 +18,7 @@ Bytes bytes = (i : ℕ) → get_or bytes i 0 < 256
 
 -- A record that can be written where `last` is the last bus: in range, its word of 16 bits.
 pub record Fits (last : ℕ) (r : WordRecord) : Type 0 where
-  pub in_range_lem : in_range last r ≡ true
+  pub ranged : in_range last r ≡ true
   pub sixteen : r.word < 2 ^ 16
 
 abbrev pub AllFit : ℕ → List WordRecord → Type 0

@@ -10,21 +10,21 @@ use words::Refusal;
 pub const VERSION: u8 = 1;
 
 // Where the records of a file start, or the refusal of its version.
-#[derive(Drop)]
+#[derive(Clone, Copy)]
 pub enum Opened {
     At(Cursor),
     Refused(Refusal),
 }
 
 // A place in a file, counted in bytes, and the last bus that a record there may name.
-#[derive(Drop)]
+#[derive(Clone, Copy)]
 pub struct Cursor {
     pub at: usize,
     pub last_bus: u8,
 }
 
 // What stands at a place: a record and the place after it, the end of the file, or a refusal.
-#[derive(Drop)]
+#[derive(Clone, Copy)]
 pub enum Next {
     Record(WordRecord, Cursor),
     End,
@@ -32,7 +32,7 @@ pub enum Next {
 }
 
 // How many records a file holds, or its first refusal.
-#[derive(Drop)]
+#[derive(Clone, Copy)]
 pub enum Counted {
     Records(u64),
     Refused(Refusal),

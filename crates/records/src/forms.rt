@@ -15,7 +15,7 @@ pub const RECORD_BYTES: usize = 16;
 pub const LAST_BUS: u8 = 1;
 
 // A word as the receiver handed it over. Any numbers fit; `in_range` says which can be written and read.
-#[derive(Drop)]
+#[derive(Clone, Copy)]
 pub struct WordRecord {
     pub time: Moment,
     pub bus: u8,
@@ -83,7 +83,7 @@ impl WordRecord {
         }
         if self.in_range(LAST_BUS) {
             let form = self.form();
-            bytes::copy(&form, bytes);
+            bytes[..RECORD_BYTES].copy_from_slice(&form);
             Refusal::NONE
         } else {
             Refusal::OUT_OF_RANGE
@@ -92,7 +92,7 @@ impl WordRecord {
 }
 
 // What reading gives: a record in range, or the number of the refusal.
-#[derive(Drop)]
+#[derive(Clone, Copy)]
 pub enum Read {
     Record(WordRecord),
     Refused(Refusal),

@@ -47,8 +47,8 @@ going_fed s waiting rest clean runs more going = record {
       ∙ going.told (more ++ future)
       ∙ ap (λ (k : List ℕ). tell (tallied s clean runs) (pieces_from 0 s.last k)) (sym (append_assoc waiting more future));
   places = omega (arith, going.places, length-append waiting more, length-append rest more);
-  few_records = going.few-records;
-  few_skipped = going.few-skipped;
+  few_records = going.few_records;
+  few_skipped = going.few_skipped;
 }
 
 -- a stretch of no byte leaves the last kept
@@ -78,7 +78,7 @@ module _ (s : Settled) (waiting rest clean : List ℕ) (runs : List Run) (k : St
   asked_none : k.bytes ≡ 0 → k.last ≡ s.last → Asked s waiting rest clean runs k n s (record { place = 0; length = 0 })
   asked_none h e =
       let length_is = sum_small s.run.length n (omega (arith, going.places)) in
-      let skipped_is = sum_small s.skipped n (omega (arith, going.places, going.few-skipped)) in
+      let skipped_is = sum_small s.skipped n (omega (arith, going.places, going.few_skipped)) in
       record {
         last_same = sym e;
         tally_same =
@@ -86,8 +86,8 @@ module _ (s : Settled) (waiting rest clean : List ℕ) (runs : List Run) (k : St
             ∙ tally_same (with_skipped (tallied s clean runs) n) (tallied (settled_skipped s n) (clean ++ take k.bytes waiting) (runs ++ []))
             (sym (append-nil clean) ∙ ap (λ (j : ℕ). clean ++ take j waiting) (sym h)) (sym (append-nil runs)) refl (sym length_is) refl (sym skipped_is);
         places = omega (arith, going.places, length_is);
-        few_records = going.few-records;
-        few_skipped = omega (arith, going.few-skipped, length_is, skipped_is);
+        few_records = going.few_records;
+        few_skipped = omega (arith, going.few_skipped, length_is, skipped_is);
       }
 
   asked_some : (k.bytes ≡ 0 → ⊥)
@@ -103,9 +103,9 @@ module _ (s : Settled) (waiting rest clean : List ℕ) (runs : List Run) (k : St
       let end_is = sum_small s.run.place s.run.length (omega (arith, going.places)) in
       let place_is = sum_small (sum64 s.run.place s.run.length) k.bytes (omega (arith, going.places, end_is)) in
       let place_all : sum64 (sum64 s.run.place s.run.length) k.bytes ≡ s.run.place + s.run.length + k.bytes = omega (arith, place_is, end_is) in
-      let records_is = sum_small s.records (k.bytes / 16) (omega (arith, going.places, going.few-records)) in
+      let records_is = sum_small s.records (k.bytes / 16) (omega (arith, going.places, going.few_records)) in
       let length_is = sum_small 0 n (omega (arith, going.places)) in
-      let skipped_is = sum_small s.skipped n (omega (arith, going.places, going.few-skipped)) in
+      let skipped_is = sum_small s.skipped n (omega (arith, going.places, going.few_skipped)) in
       let s' : Settled = record {
         last = k.last;
         run = record { place = sum64 (sum64 s.run.place s.run.length) k.bytes; length = 0 };
@@ -121,8 +121,8 @@ module _ (s : Settled) (waiting rest clean : List ℕ) (runs : List Run) (k : St
             (tallied (settled_skipped s' n) (clean ++ take k.bytes waiting) (runs ++ listed s.run.place s.run.length))
             refl refl (sym place_all) (sym length_is) (sym records_is) (sym skipped_is);
         places = omega (arith, going.places, place_all, length_is);
-        few_records = sixteenth s.records s.run.place s.run.length k.bytes _ _ going.few-records records_is place_all;
-        few_skipped = omega (arith, going.few-skipped, place_all, length_is, skipped_is);
+        few_records = sixteenth s.records s.run.place s.run.length k.bytes _ _ going.few_records records_is place_all;
+        few_skipped = omega (arith, going.few_skipped, place_all, length_is, skipped_is);
       }
 
   asked : (k.bytes ≡ 0 → k.last ≡ s.last) → Asked s waiting rest clean runs k n (settled_kept s k) (run_ended s k)
@@ -149,10 +149,10 @@ module _ (s : Settled) (waiting rest clean : List ℕ) (runs : List Run) (k : St
             going.told future
             ∙ subst (λ (x : Stretch). tell t (pieces_from 0 s.last (waiting ++ future)) ≡ tell (with_kept t (take x.bytes waiting) x.bytes) (pieces_from 0 x.last (drop x.bytes waiting ++ future))) (sym k-is) (tell_kept t s.last waiting future)
             ∙ subst (λ (x : ℕ). tell (with_kept t (take k.bytes waiting) k.bytes) (pieces_from 0 k.last (drop k.bytes waiting ++ future)) ≡ tell (with_skipped (with_kept t (take k.bytes waiting) k.bytes) x) (pieces_from 0 k.last (drop x (drop k.bytes waiting) ++ future))) (sym n_is) (tell_skips (with_kept t (take k.bytes waiting) k.bytes) k.last (drop k.bytes waiting) future)
-            ∙ ap₂ tell a.tally-same (ap₂ (λ (l : Last) (w : List ℕ). pieces_from 0 l (w ++ future)) (sym a.last-same) (drop-drop n k.bytes waiting));
+            ∙ ap₂ tell a.tally_same (ap₂ (λ (l : Last) (w : List ℕ). pieces_from 0 l (w ++ future)) (sym a.last_same) (drop-drop n k.bytes waiting));
         places = omega (arith, a.places, length-drop (k.bytes + n) waiting);
-        few_records = a.few-records;
-        few_skipped = a.few-skipped;
+        few_records = a.few_records;
+        few_skipped = a.few_skipped;
       }
 
 -- ---- what every course reaches
@@ -330,7 +330,7 @@ exact_totals c r small few =
     let length_is : sum64 s.run.length count ≡ s.run.length + length w =
     sum_small s.run.length count (omega (arith, long, places, all)) ∙ omega (arith, long) in
     let skipped_is : sum64 s.skipped count ≡ s.skipped + length w =
-    sum_small s.skipped count (omega (arith, long, places, all, r.going.few-skipped)) ∙ omega (arith, long) in
+    sum_small s.skipped count (omega (arith, long, places, all, r.going.few_skipped)) ∙ omega (arith, long) in
     record {
       clean = ap₂ (λ (f : First) (k : List ℕ). version_of f ∷ k) r.first (sym (ap (λ (x : Tally). x.clean) told) ∙ tell_clean start_tally ps);
       runs =

@@ -10,21 +10,21 @@ use words::{Moment, Ticks};
 const STEP_MOST: Ticks = Ticks(100_000_000);
 
 // The time of the record that was kept last, of either bus, or that none was.
-#[derive(Drop)]
+#[derive(Clone, Copy)]
 pub enum Last {
     Nothing,
     At(Moment),
 }
 
 // What becomes of the bytes at a place: 16 are kept, a record of that time, or one is skipped.
-#[derive(Drop)]
+#[derive(Clone, Copy)]
 pub(crate) enum Choice {
     Keeps(Moment),
     Skips,
 }
 
 // What stands at a place among skipped bytes: a record to keep, or how many records that are refused for their time alone, one or none.
-#[derive(Drop)]
+#[derive(Clone, Copy)]
 pub(crate) enum Place {
     Keeps,
     Skips(usize),

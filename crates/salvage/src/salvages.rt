@@ -12,7 +12,7 @@ use std::num::wrapping_add_u64;
 use windows::Window;
 
 // The first byte of the file: none has come, it is 1, or it is another.
-#[derive(Drop)]
+#[derive(Clone, Copy)]
 pub enum First {
     Missing,
     Kept,
@@ -57,7 +57,7 @@ impl First {
 
 // Skipped bytes that stand together: the place of the first, counted from 0 in the damaged file, and how many they are. A length of 0 is
 // no run, and its place says nothing.
-#[derive(Drop)]
+#[derive(Clone, Copy)]
 pub struct Run {
     pub place: u64,
     pub length: u64,
@@ -65,7 +65,7 @@ pub struct Run {
 
 // What is settled so far: the last kept, the run that reaches up to here (its length is 0 where a record was kept right before), and how
 // many records were kept and bytes skipped.
-#[derive(Drop)]
+#[derive(Clone, Copy)]
 pub struct Settled {
     pub last: Last,
     pub run: Run,
@@ -75,7 +75,7 @@ pub struct Settled {
 
 // The machine. The bytes that wait stand in a window of the caller's room: it is lent the same room each time, of 16 bytes or more, and
 // nobody else writes there.
-#[derive(Drop)]
+#[derive(Clone, Copy)]
 pub struct Salvage {
     pub first: First,
     pub settled: Settled,
@@ -83,7 +83,7 @@ pub struct Salvage {
 }
 
 // The machine after a chunk, and how many bytes of the chunk it took.
-#[derive(Drop)]
+#[derive(Clone, Copy)]
 pub struct Fed {
     pub salvage: Salvage,
     pub taken: usize,
@@ -92,7 +92,7 @@ pub struct Fed {
 // The machine after a question; the run that has ended, of length 0 where none has; where in the room the bytes to keep stand, and how
 // many: they come behind the run; and at how many places of the bytes skipped behind those a record stands that is refused for its time
 // alone. They all stand there until the next feed.
-#[derive(Drop)]
+#[derive(Clone, Copy)]
 pub struct Progress {
     pub salvage: Salvage,
     pub run: Run,
@@ -102,7 +102,7 @@ pub struct Progress {
 }
 
 // What the bytes that were taken came to as a file: its first byte, the run at its end (length 0: none), records kept, bytes skipped, its size.
-#[derive(Drop)]
+#[derive(Clone, Copy)]
 pub struct Totals {
     pub first: First,
     pub run: Run,
@@ -112,7 +112,7 @@ pub struct Totals {
 }
 
 // What an end gives; it is too early while 16 bytes or more wait. Whether more of the file would come the caller alone knows.
-#[derive(Drop)]
+#[derive(Clone, Copy)]
 pub enum Ended {
     Whole(Totals),
     Early,

@@ -6,7 +6,7 @@ use crate::choices::{Choice, Last, Place};
 use records::RECORD_BYTES;
 
 // How many bytes are kept, and the time of the record that was kept last.
-#[derive(Drop)]
+#[derive(Clone, Copy)]
 pub(crate) struct Stretch {
     pub(crate) bytes: usize,
     pub(crate) last: Last,
@@ -36,7 +36,7 @@ pub(crate) fn keep_stretch(last: Last, bytes: &[u8]) -> Stretch
 }
 
 // How many bytes are skipped, and at how many of their places a record stands that is refused for its time alone.
-#[derive(Drop)]
+#[derive(Clone, Copy)]
 pub(crate) struct Skipped {
     pub(crate) bytes: usize,
     pub(crate) strays: usize,

@@ -8,7 +8,7 @@ use verdict::Plan;
 use words::{CommandWord, Moment};
 
 // One or two command words, sent once in so many frames as the period says. Any numbers fit; of one command the second word is not read.
-#[derive(Drop)]
+#[derive(Clone, Copy)]
 pub struct Message {
     pub commands: u8,
     pub first: CommandWord,

@@ -11,7 +11,7 @@ use words::Refusal;
 const STEPS_MOST: u64 = 500;
 
 // What the planner says: the first frames that it lends back are accepted by the check; it found none; or the schedule is refused.
-#[derive(Drop)]
+#[derive(Clone, Copy)]
 pub enum Proposal {
     Found,
     None,

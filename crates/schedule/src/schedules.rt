@@ -16,14 +16,14 @@ const FRAMES: usize = 64;
 pub type Frames = [u64; 64];
 
 // The messages of a schedule: the first `count` of them. Any numbers fit.
-#[derive(Drop)]
+#[derive(Clone, Copy)]
 pub struct Schedule {
     pub count: u64,
     pub messages: [Message; 64],
 }
 
 // What the check says: refused, rejected for a message or for a frame, counted from 0, or accepted.
-#[derive(Drop)]
+#[derive(Clone, Copy)]
 pub enum Outcome {
     Refused(Refusal),
     RejectedMessage(u64),

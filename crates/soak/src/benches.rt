@@ -7,7 +7,7 @@ use crate::sums::{START, add_answer, add_byte, add_received, add_state};
 use std::num::wrapping_add_u64;
 use terminal::{Happened, SetUp, Setup, Terminal};
 
-#[derive(Drop)]
+#[derive(Clone, Copy)]
 pub(crate) struct Bench {
     pub(crate) terminal: Terminal,
     pub(crate) sum: u64,

@@ -7,7 +7,7 @@ use words::{CommandWord, Moment, parity_bit};
 pub(crate) const TABLE: usize = 1024;
 
 // A set-up; masks is m, from which the masks are made.
-#[derive(Drop)]
+#[derive(Clone, Copy)]
 pub(crate) struct SettingUp {
     pub(crate) address: u16,
     pub(crate) receive: usize,
@@ -16,14 +16,14 @@ pub(crate) struct SettingUp {
 }
 
 // An event, and how many words of each table are lent to it.
-#[derive(Drop)]
+#[derive(Clone, Copy)]
 pub(crate) struct Lending {
     pub(crate) event: Event,
     pub(crate) receive: usize,
     pub(crate) transmit: usize,
 }
 
-#[derive(Drop)]
+#[derive(Clone, Copy)]
 pub(crate) enum Call {
     SetUp(SettingUp),
     Happen(Lending),

@@ -1,5 +1,7 @@
 // soak: makes calls of the stream that bench/soak.h defines, hands them to the proved terminal, and writes a checksum over every outcome.
 // soak CALLS [SEED [EVERY]]: a line "soak CALLS CHECKSUM" every so many calls and at the end, the same that bench/soak.c writes of plain C.
+#![tactic(auto)]
+
 mod arguments;
 mod benches;
 mod calls;
@@ -24,7 +26,7 @@ use outputs::{write_line, write_usage};
 use streams::Stream;
 
 // What goes from call to call.
-#[derive(Drop)]
+#[derive(Clone, Copy)]
 struct Progress {
     stream: Stream,
     bench: Bench,

@@ -17,7 +17,7 @@ pub(crate) const FULL: u8 = 3;
 
 // "Variables: address, now, from, bus, command, partner, left, first, and a stage"; before them the fixed part, and whether the mixed
 // part's first set-up has been made.
-#[derive(Drop)]
+#[derive(Clone, Copy)]
 pub(crate) struct Stream {
     pub(crate) sweep: Sweep,
     pub(crate) started: bool,
@@ -33,7 +33,7 @@ pub(crate) struct Stream {
 }
 
 // A call, and the stream after it.
-#[derive(Drop)]
+#[derive(Clone, Copy)]
 pub(crate) struct Made {
     pub(crate) call: Call,
     pub(crate) stream: Stream,

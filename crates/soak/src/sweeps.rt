@@ -6,7 +6,7 @@ use terminal::Event;
 use words::{CommandWord, Moment};
 
 // Where the part stands: its word c, how many of that word's calls are made, and whether all words are through.
-#[derive(Drop)]
+#[derive(Clone, Copy)]
 pub(crate) struct Sweep {
     pub(crate) over: bool,
     pub(crate) word: u16,
@@ -14,7 +14,7 @@ pub(crate) struct Sweep {
 }
 
 // A call, and the sweep after it.
-#[derive(Drop)]
+#[derive(Clone, Copy)]
 pub(crate) struct Swept {
     pub(crate) call: Call,
     pub(crate) sweep: Sweep,

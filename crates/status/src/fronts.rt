@@ -15,7 +15,7 @@ pub const VERSION: [u8; 6] = *b"0.21.0";
 const DESCRIPTOR_MOST: u64 = 2147483647;
 
 // Whether the run's end is to be told and to which descriptor, and the place of the first argument behind that.
-#[derive(Drop)]
+#[derive(Clone, Copy)]
 pub struct Front {
     pub told: bool,
     pub fd: i32,
@@ -23,14 +23,14 @@ pub struct Front {
 }
 
 // What the front of a call asks: to go on with the arguments behind it, or nothing more, the run having ended so.
-#[derive(Drop)]
+#[derive(Clone, Copy)]
 pub enum Begun {
     On(Front),
     Over(Front, Status),
 }
 
 // A number that a descriptor can have, or that a text spells none.
-#[derive(Drop)]
+#[derive(Clone, Copy)]
 enum Descriptor {
     Is(i32),
     None,

@@ -3,7 +3,7 @@ ghost use Rattle.std.specs.Prelude.{◌≡◌};
 ghost use Rattle.status.specs.Statuses.{status_of, worse_of, digit_of};
 
 // All is well; the tool said refused, rejected, none or error, or could not write; it was called wrongly.
-#[derive(Drop)]
+#[derive(Clone, Copy)]
 pub enum Status {
     Good,
     Failed,

@@ -16,7 +16,7 @@ use crate::tables::{SUBADDRESS_WORDS, fetch, is_shut, store};
 use words::{CommandWord, Flag, Moment, StatusWord};
 
 // What an event carries: "(bus, due time, status, number of data words, words)", the words past the number 0; or none.
-#[derive(Drop)]
+#[derive(Clone, Copy)]
 pub struct Answer {
     pub due: Moment,
     pub words: [u16; 32],
@@ -27,7 +27,7 @@ pub struct Answer {
 }
 
 // The data words of an answer, those past the number 0.
-#[derive(Drop)]
+#[derive(Clone, Copy)]
 pub struct Reply {
     pub words: [u16; 32],
     pub count: u16,

@@ -13,21 +13,21 @@ use records::{LAST_BUS, WordRecord};
 use words::{Moment, Refusal};
 
 // "An event is a record or a time mark."
-#[derive(Drop)]
+#[derive(Clone, Copy)]
 pub enum Event {
     Mark(Moment),
     Word(WordRecord),
 }
 
 // An event in numbers, so that it is matched on once: a time mark is told as a record of zeros at its time, and that it is a mark.
-#[derive(Drop)]
+#[derive(Clone, Copy)]
 pub struct Told {
     pub heard: WordRecord,
     pub mark: bool,
 }
 
 // What an event gives: the terminal after it, the answer that it carries, the refusal's number or 0, and whether it cut a sending.
-#[derive(Drop)]
+#[derive(Clone, Copy)]
 pub struct Happened {
     pub terminal: Terminal,
     pub answer: Answer,

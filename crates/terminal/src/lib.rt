@@ -1,5 +1,7 @@
 // The terminal: set-up, events, host calls, next moment (01 The terminal). Meaning: specs/. Refusals: 1, 2 of set-up; 1, 5, 6 of an
 // event. The caller gives the time, and the state goes in and comes back by value; any value of it is taken.
+#![tactic(auto)]
+
 mod answers;
 mod commands;
 mod effects;

@@ -163,7 +163,7 @@ impl Sending {
 // ---- the next moment
 
 // "the next moment at which time alone matters: .., or none"
-#[derive(Drop)]
+#[derive(Clone, Copy)]
 pub enum NextMoment {
     At(Moment),
     Never,

@@ -16,14 +16,14 @@ use records::WordRecord;
 use words::{CommandWord, Flag, Moment, Spacing, StatusWord};
 
 // What rules 1 and 2 give: the work after them, and the answer that the event carries.
-#[derive(Drop)]
+#[derive(Clone, Copy)]
 pub struct Passed {
     pub work: Work,
     pub answer: Answer,
 }
 
 // What a record is to the terminal, in the order of rules 3 to 6.
-#[derive(Drop)]
+#[derive(Clone, Copy)]
 pub enum Meaning {
     // heard while the terminal is sending on its bus
     Ignored,

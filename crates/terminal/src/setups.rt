@@ -12,7 +12,7 @@ const LAST_ADDRESS: u16 = 30;
 const MASKS: usize = 32;
 
 // The terminal, after a refusal one that can never answer; and the refusal's number or 0.
-#[derive(Drop)]
+#[derive(Clone, Copy)]
 pub struct SetUp {
     pub terminal: Terminal,
     pub refusal: Refusal,

@@ -12,13 +12,13 @@ use crate::tables::{BUSES, with_word};
 use words::{CommandWord, Moment, StatusWord, Ticks};
 
 // What the rules ask of the set-up: what a later choice adds to it joins the own address here.
-#[derive(Drop)]
+#[derive(Clone, Copy)]
 pub struct Own {
     pub address: u16,
 }
 
 // What set-up gives; nothing changes it. "bit n of the mask of a subaddress says that count code n is legal".
-#[derive(Drop)]
+#[derive(Clone, Copy)]
 pub struct Setup {
     pub receive: [u32; 32],
     pub transmit: [u32; 32],
@@ -27,7 +27,7 @@ pub struct Setup {
 
 // What the host sets: "the flags (service request, busy, subsystem, terminal fault), vector and BIT words". The terminal fault is a defect of
 // the card and no faulty message.
-#[derive(Drop)]
+#[derive(Clone, Copy)]
 pub struct Host {
     pub vectorword: u16,
     pub bitword: u16,
@@ -39,7 +39,7 @@ pub struct Host {
 
 // How a word was badly spaced (02 i). Of the last spacing fault, none where there was none since the terminal was fresh; of a fault, none where its
 // cause is another.
-#[derive(Drop)]
+#[derive(Clone, Copy)]
 pub enum SpacingFault {
     None,
     // "overlapping (below 195)"
@@ -50,7 +50,7 @@ pub enum SpacingFault {
 
 // What a restart makes fresh: stored status, last command, sync word, self-test request, terminal flag inhibited, for each bus whether its transmitter
 // is shut down, and of the last spacing fault whether it was overlapping or separated: two flags, since the enum would leave a hole (DECISIONS 75).
-#[derive(Drop)]
+#[derive(Clone, Copy)]
 pub struct Held {
     pub status: StatusWord,
     pub command: CommandWord,
@@ -63,7 +63,7 @@ pub struct Held {
 }
 
 // What the message under way awaits.
-#[derive(Drop)]
+#[derive(Clone, Copy)]
 pub enum Phase {
     // no message
     Idle,
@@ -78,7 +78,7 @@ pub enum Phase {
 }
 
 // The message under way: the times of its command and of its last word, and the data words so far, staged until it is settled.
-#[derive(Drop)]
+#[derive(Clone, Copy)]
 pub struct Message {
     pub start: Moment,
     pub last: Moment,
@@ -90,7 +90,7 @@ pub struct Message {
 }
 
 // The answer that is being sent, from its due time on, its status word counted.
-#[derive(Drop)]
+#[derive(Clone, Copy)]
 pub struct Sending {
     pub from: Moment,
     pub words: u16,
@@ -100,7 +100,7 @@ pub struct Sending {
 
 // The terminal. `next` is the next moment at which time alone matters, where `timed` says that there is one: it is set with the message, so that the host's
 // question works nothing out (02 e). Two fields, since with the enum an event is slower (DECISIONS 80).
-#[derive(Drop)]
+#[derive(Clone, Copy)]
 pub struct Terminal {
     pub message: Message,
     pub sending: Sending,
@@ -113,7 +113,7 @@ pub struct Terminal {
 }
 
 // What the rules change of it: an event hands on this alone, and not the masks with it.
-#[derive(Drop)]
+#[derive(Clone, Copy)]
 pub struct Work {
     pub message: Message,
     pub sending: Sending,

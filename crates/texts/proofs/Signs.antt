@@ -207,10 +207,10 @@ each_as : {P Q : List ℕ → Type 0} → ((text : List ℕ) → P text → Q te
 each_as f each =
     record {
       entry = λ added e. f (entry_text added e) (each.entry added e);
-      log_end = λ entries records. f (log_end_text entries records) (each.log-end entries records);
-      log_refused = λ refusal place byte entries. f (log_refused_text refusal place byte entries) (each.log-refused refusal place byte entries);
+      log_end = λ entries records. f (log_end_text entries records) (each.log_end entries records);
+      log_refused = λ refusal place byte entries. f (log_refused_text refusal place byte entries) (each.log_refused refusal place byte entries);
       run = λ run. f (run_text run) (each.run run);
-      save_end = λ totals. f (save_end_text totals) (each.save-end totals);
+      save_end = λ totals. f (save_end_text totals) (each.save_end totals);
     }
 
 pub line_plain : LinePlain

@@ -1,5 +1,7 @@
 // The texts of the tools' lines (02 a, c, i, j; docs/LINES.md): each is spelled into the block where it stands, behind what waits there, and room is asked once a line. Which
 // entries of a log are shown. Meaning: specs/. Refusals: none. It knows what the lines say, and nothing of files.
+#![tactic(auto)]
+
 mod closings;
 mod entries;
 mod flaws;

@@ -10,7 +10,7 @@ use schedule::Message;
 use words::Refusal;
 
 // How the reading, the check or the planner ended.
-#[derive(Drop)]
+#[derive(Clone, Copy)]
 pub enum Closing {
     Accepted,
     RejectedFrame(u64),

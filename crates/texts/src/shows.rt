@@ -8,7 +8,7 @@ use records::WordRecord;
 use words::CommandWord;
 
 // What is asked for: entries that begin from a time on up to another; of an address, of a bus, where one is given; and whether only those that are to be looked at.
-#[derive(Drop)]
+#[derive(Clone, Copy)]
 pub struct Wanted {
     pub from: u64,
     pub to: u64,

@@ -99,7 +99,7 @@ unfolding status_fact flag_fact
 good_status address unjudged last r g =
     let gap : ℕ = gap_of last r.time.0 in
     let no_data : eqb r.sync data_sync ≡ false = rw g.sync in
-    rw (le-ltb response_most gap (omega (arith, g.not_late)), le-ltb gap gap_least g.not-early, le-ltb gap_most gap g.not_late, g.valid, no_data, eq-eqb (address_of r.word) address g.from)
+    rw (le-ltb response_most gap (omega (arith, g.not_late)), le-ltb gap gap_least g.not_early, le-ltb gap_most gap g.not_late, g.valid, no_data, eq-eqb (address_of r.word) address g.from)
     (cond_cases (λ (n : ℕ). n ≡ good) unjudged (λ yes. refl) (λ no'. rw ((g.flags no').0, (g.flags no').1)))
 
 data_good : (last : ℕ) (r : WordRecord) → data_fact last r ≡ good → GoodData last r

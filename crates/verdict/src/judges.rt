@@ -11,14 +11,14 @@ use records::{LAST_BUS, RECORD_BYTES, Read, WordRecord, read_record};
 use words::{Moment, Refusal};
 
 // A verdict, and how many returned records were looked at for it, at most 35. The checks before the verdict are not counted.
-#[derive(Drop)]
+#[derive(Clone, Copy)]
 pub struct Finding {
     pub verdict: Verdict,
     pub looked: u8,
 }
 
 // A verdict with its number of records, or the number of the refusal.
-#[derive(Drop)]
+#[derive(Clone, Copy)]
 pub enum Judged {
     Given(Finding),
     Refused(Refusal),

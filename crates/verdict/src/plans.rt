@@ -10,7 +10,7 @@ use words::{CommandWord, Listing, ModeWord, Moment, Refusal};
 
 // "Plan: one or two command words, the bus, the time E of the controller's last word, the moment Q up to which it listened". Any numbers fit;
 // of one command the second word is not read. `last` is E, `until` is Q.
-#[derive(Drop)]
+#[derive(Clone, Copy)]
 pub struct Plan {
     pub commands: u8,
     pub first: CommandWord,
@@ -21,7 +21,7 @@ pub struct Plan {
 }
 
 // What is expected at a place: the status of an address, and whether its message error and busy bits are let pass; a data word; nothing more.
-#[derive(Drop)]
+#[derive(Clone, Copy)]
 pub enum Expected {
     Status(u16, bool),
     Data,

@@ -3,7 +3,7 @@ ghost use Rattle.std.specs.Prelude.{◌≡◌, [], ◌∷◌};
 ghost use Rattle.verdict.specs.Numbers.{good, no_response, waiting, early, late, not_valid, wrong_sync, wrong_address, message_error, busy, separated, left_over, overlapping, last_verdict};
 
 // The number of a verdict.
-#[derive(Drop)]
+#[derive(Clone, Copy)]
 pub struct Verdict(pub u8);
 
 impl Verdict {

@@ -1,11 +1,11 @@
 -- Bytes moved to the front of a room, and others put behind them. Assumes nothing.
 use mathlib.Core.Path.{◌≡◌, refl, sym, ap, ap₂, ◌∙◌}
-use Prim.Native.Nat.{ℕ, zero, suc, ◌+◌, ◌-◌, ◌≤◌, ◌<◌, min}
+use Prim.Native.Nat.{ℕ, suc, ◌+◌, ◌≤◌, ◌<◌}
 use native.Mathlib.Nat.{zero-add}
 use native.Mathlib.Omega.{arith}
-use mathlib.Core.List.{List, [], ◌++◌, append-nil}
-use lib.ListN.{length, get_or, set, take, drop, length-take, length-drop, drop_of_length-le}
-use lib.Seq.{paste, paste-zero, paste-suc, length-paste, length-take-le, take_all, take-length, drop-drop, get_or-drop, get_or-append-add}
+use mathlib.Core.List.{List, ◌++◌}
+use lib.ListN.{length, get_or, set, take, drop, length-drop}
+use lib.Seq.{paste, paste-zero, paste-suc, length-paste, length-take-le, drop-drop, get_or-drop, get_or-append-add}
 use borrow.Rule.Slice.PartMut.{put_mid}
 
 -- ---- moving to the front
@@ -58,23 +58,6 @@ module _ (old : List ℕ) (from count : ℕ) (room : List ℕ) (i : ℕ) (moving
 
 -- ---- putting behind
 
-module _ (room chunk : List ℕ) (at r : ℕ) (e : r ≡ min (length room - at) (length chunk)) where
-  pub taken_length : r ≡ length (take r chunk)
-  taken_length = sym (length-take-le r chunk (omega arith))
-
-  pub room_enough : length (take r chunk) ≤ length (take (length room - at) (drop at room))
-  room_enough = omega (arith, taken_length, length-take (length room - at) (drop at room), length-drop at room)
-
 -- r bytes of the chunk were copied into the part of the room from a place on
-pub filled : (room chunk last : List ℕ) (at r n : ℕ) → at ≤ length room → r ≡ min (length room - at) (length chunk) → n ≡ length (take r chunk)
-    → last ≡ take n (take r chunk) ++ drop n (take (length room - at) (drop at room))
-    → put_mid at (length room - at) room last ≡ take at room ++ (take r chunk ++ drop (at + r) room)
-filled room chunk last at r n l e m q =
-    let n_is : n ≡ r = m ∙ length-take-le r chunk (omega arith) in
-    let front : take n (take r chunk) ≡ take r chunk = ap (λ (k : ℕ). take k (take r chunk)) m ∙ take-length (take r chunk) in
-    let part : take (length room - at) (drop at room) ≡ drop at room = take_all (length room - at) (drop at room) (omega (arith, length-drop at room)) in
-    let none : drop (length room - at) (drop at room) ≡ [] = drop_of_length-le (drop at room) {i = length room - at} (omega (arith, length-drop at room)) in
-    let rest : drop n (take (length room - at) (drop at room)) ≡ drop (at + r) room =
-    ap₂ drop n_is part ∙ drop-drop r at room in
-    ap (λ (z : List ℕ). take at room ++ z)
-    (ap₂ ◌++◌ (q ∙ ap₂ ◌++◌ front rest) none ∙ append-nil (take r chunk ++ drop (at + r) room))
+pub filled : (room chunk last : List ℕ) (at r n : ℕ) → n ≡ r → last ≡ take r chunk → put_mid at n room last ≡ take at room ++ (take r chunk ++ drop (at + r) room)
+filled room chunk last at r n m q = rw (q, m) (ap (λ (z : List ℕ). take at room ++ (take r chunk ++ z)) (drop-drop r at room))

@@ -1,6 +1,6 @@
 -- The bytes that wait, as the code finds them, and what becomes of them. Assumes nothing.
 use mathlib.Core.Path.{◌≡◌, refl, sym, ap, ap₂, ◌∙◌}
-use Prim.Native.Nat.{ℕ, zero, suc, ◌+◌, ◌-◌, ◌≤◌, ◌<◌, min}
+use Prim.Native.Nat.{ℕ, zero, suc, ◌+◌, ◌-◌, ◌≤◌, min}
 use native.Mathlib.Nat.{lt_of_not-le}
 use native.Mathlib.Omega.{arith}
 use native.Mathlib.Decide.{dec_le}
@@ -8,8 +8,8 @@ use mathlib.Core.Logic.{dite}
 use mathlib.Core.List.{List, [], ◌∷◌, ◌++◌}
 use lib.ListN.{length, take, drop, length-append, length-take, length-drop, drop_of_length-le}
 use lib.Seq.{length-take-le, take_all, take-nil, take_at, take-append-add, take-append_seam, drop-drop, drop-append-add}
-use Rattle.windows.specs.Windows.{empty_window, count_of, waiting_in, after_taking, front_window, front_room, with_more, taken_of, filled_of, filled_room}
-use Rattle.windows.specs.Theorems.{EmptyWaits, WaitingCount, TakenWaits, TakenCount, TakenInside, BehindWaits, Waits, FrontWaits, MoreWaits, FilledWaits, FilledFew, FilledSome}
+use Rattle.windows.specs.Windows.{count_of, waiting_in, after_taking, front_window, front_room, with_more, taken_of, filled_of, filled_room}
+use Rattle.windows.specs.Theorems.{EmptyWaits, WaitingCount, TakenWaits, TakenCount, TakenInside, BehindWaits, FrontWaits, MoreWaits, FilledWaits, FilledFew, FilledSome}
 use Rattle.windows.specs.declared.windows.Window.{Window}
 
 -- ---- parts of a list

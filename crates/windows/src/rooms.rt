@@ -27,6 +27,6 @@ pub(crate) fn put_behind(room: &mut [u8], at: usize, chunk: &[u8]) -> usize
     ensures room { room.new ≡ take at room.old ++ (take result chunk.now ++ drop (at + result) room.old) }
 {
     let count = least(room.len() - at, chunk.len());
-    bytes::copy(&chunk[..count], &mut room[at..]);
+    room[at..at + count].copy_from_slice(&chunk[..count]);
     count
 }

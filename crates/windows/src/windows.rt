@@ -5,14 +5,14 @@ ghost use Rattle.windows.specs.Windows.{empty_window, count_of, waiting_in, afte
 use crate::rooms::{least, move_front, put_behind};
 
 // The bytes of a room from one place up to another wait. The room is lent anew with each call, and is always the same one.
-#[derive(Drop)]
+#[derive(Clone, Copy)]
 pub struct Window {
     pub from: usize,
     pub to: usize,
 }
 
 // The window after a chunk, and how many bytes of the chunk were taken.
-#[derive(Drop)]
+#[derive(Clone, Copy)]
 pub struct Filled {
     pub window: Window,
     pub taken: usize,

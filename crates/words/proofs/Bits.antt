@@ -1,7 +1,7 @@
 -- Laws of shifts, masks and `|`, over any width. Assumes nothing.
 use mathlib.Core.Path.{◌≡◌, sym, ap, subst, ◌∙◌}
 use mathlib.Core.Bool.{not, cond}
-use Prim.Native.Nat.{ℕ, zero, suc, ◌+◌, ◌-◌, ◌*◌, ◌/◌, ◌%◌, ◌^◌, ◌≤◌, ◌<◌}
+use Prim.Native.Nat.{ℕ, zero, suc, ◌+◌, ◌*◌, ◌/◌, ◌%◌, ◌^◌, ◌≤◌, ◌<◌}
 use native.Mathlib.Nat.{add-zero, one-mul, zero-mul, mod-lt, mod-eq_of_lt, lt_of_le_of_lt, lt_of_lt_of_le, div-eq_of_lt}
 use native.Mathlib.Omega.{arith}
 use lib.Dec.{eqb}

@@ -1,13 +1,13 @@
 -- Taking words apart and putting them together are inverse, both ways. Assumes nothing.
-use mathlib.Core.Path.{◌≡◌, refl, sym, ap, ◌∙◌}
-use mathlib.Core.Bool.{Bool, true, false, ◌&&◌}
+use mathlib.Core.Path.{◌≡◌, sym, ap, ◌∙◌}
+use mathlib.Core.Bool.{true, ◌&&◌}
 use Prim.Native.Nat.{ℕ, ◌+◌, ◌*◌, ◌/◌, ◌%◌, ◌^◌, ◌<◌}
 use native.Mathlib.Nat.{zero-mul, mod-lt, mod-eq_of_lt}
 use native.Mathlib.Omega.{arith}
 use lib.Dec.{eqb}
 use lib.Pow.{pow_pos, mod-pow-add}
 use borrow.Author.Tests.{eqb-true}
-use Rattle.words.specs.Words.{field_of, placed_of, address_of, transmit_of, subaddress_of, count_of, bit_of, kept_of, flags_of, status_of, has_no_other}
+use Rattle.words.specs.Words.{field_of, placed_of, address_of, kept_of, flags_of, has_no_other}
 use Rattle.words.specs.Theorems.{Gaps, FieldsBuilt, BuiltFields, StatusFieldsBuilt, StatusBuiltFields}
 use Rattle.words.specs.declared.statuses.Flag.TheVariants.{MessageError, ServiceRequest, BroadcastReceived, Busy, Subsystem, Terminal}
 use Rattle.words.proofs.Truth.{and_both}
@@ -109,7 +109,7 @@ status_parts address f =
 pub status_fields_built : StatusFieldsBuilt
 status_fields_built address flags h =
     let parts = status_parts address flags in
-    rw (mod-eq_of_lt {n = address} {m = 32} h) (parts.address_is h, parts.flags-are, parts.no_other)
+    rw (mod-eq_of_lt {n = address} {m = 32} h) (parts.address_is h, parts.flags_are, parts.no_other)
 
 -- what is left below each field, from the highest; those at 9, 5 and 1 are 0
 status_sum :
@@ -120,7 +120,7 @@ status_sum w r11 r10 r9 r8 r5 r4 r3 r2 r1 r0 a e i s v b y u c t h11 h10 h9 h8 h
 
 pub status_built_fields : StatusBuiltFields
 status_built_fields word h other =
-    let flags_again : flags_of (flags_of word) ≡ flags_of word = ap flags_of (omega arith) ∙ (status_parts 0 word).flags-are in
+    let flags_again : flags_of (flags_of word) ≡ flags_of word = ap flags_of (omega arith) ∙ (status_parts 0 word).flags_are in
     let outer = and_both (eqb (field_of 9 1 word) 0 && eqb (field_of 5 3 word) 0) (eqb (field_of 1 1 word) 0) other in
     let inner = and_both (eqb (field_of 9 1 word) 0) (eqb (field_of 5 3 word) 0) outer.0 in
     let none : (k j : ℕ) → eqb (field_of k j word) 0 ≡ true → field_of k j word * 2 ^ k ≡ 0 =

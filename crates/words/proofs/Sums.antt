@@ -6,7 +6,7 @@ use native.Mathlib.Nat.{lt_of_not-le}
 use native.Mathlib.Decide.{dec_le}
 use native.Mathlib.Omega.{arith}
 use borrow.Author.Tests.{lt-ltb, le-ltb}
-use Rattle.words.specs.Words.{plus_of, gap_of}
+use Rattle.words.specs.Words.{plus_of}
 
 -- a sum that 64 bits hold is the sum
 pub plus_fits : (moment ticks : ℕ) → moment + ticks < 2 ^ 64 → plus_of moment ticks ≡ moment + ticks

@@ -5,7 +5,7 @@ ghost use Rattle.words.specs.Words.{address_of, transmit_of, subaddress_of, coun
 use crate::fields::{field, placed};
 
 // A word read as a command: "neither must a command word and a status word" be mixable.
-#[derive(Drop)]
+#[derive(Clone, Copy)]
 pub struct CommandWord(pub u16);
 
 impl CommandWord {

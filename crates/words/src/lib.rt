@@ -1,6 +1,8 @@
 // The words of the bus: moments and distances, command and status words, parity, spacing, mode codes, refusal numbers
 // (01 Time and words; Mode codes; Numbers for a refused call; and what later sections ask of a word). Meaning: specs/. Refusals: none.
 // It knows no state and reads no bytes.
+#![tactic(auto)]
+
 mod commands;
 mod fields;
 mod masks;

@@ -5,7 +5,7 @@ ghost use Rattle.words.specs.Modes.{listing_of, is_allowed};
 use crate::commands::CommandWord;
 
 // The column "data word".
-#[derive(Drop)]
+#[derive(Clone, Copy)]
 pub enum ModeWord {
     None,
     Sent,
@@ -13,7 +13,7 @@ pub enum ModeWord {
 }
 
 // What the table says of a T/R bit and a code.
-#[derive(Drop)]
+#[derive(Clone, Copy)]
 pub enum Listing {
     // "All else is reserved."
     Reserved,

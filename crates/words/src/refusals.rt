@@ -4,7 +4,7 @@ ghost use Rattle.std.specs.Prelude.{◌≡◌, [], ◌∷◌};
 ghost use Rattle.words.specs.Refusals.{not_refused, refused_table_size, refused_own_address, refused_short_record, refused_record_length, refused_out_of_range, refused_out_of_order, refused_impossible_plan, refused_wrong_version, refused_no_room, refused_schedule};
 
 // The number of a refusal, 0 where the call was not refused.
-#[derive(Drop)]
+#[derive(Clone, Copy)]
 pub struct Refusal(pub u8);
 
 impl Refusal {

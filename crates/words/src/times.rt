@@ -5,11 +5,11 @@ ghost use Rattle.words.specs.Words.{on_clock, plus_of, since_of, gap_of, is_spac
 ghost use Rattle.words.specs.Words.{word_ticks, parity_middle, back_to_back_gap, spacing_least, spacing_most, due_distance, no_response_distance};
 
 // A moment, in "ticks of 0.1 microsecond". "A word's time is the zero crossing in the middle of its sync."
-#[derive(Drop)]
+#[derive(Clone, Copy)]
 pub struct Moment(pub u64);
 
 // A length of time, in the same ticks. A moment minus a moment is ticks, a moment plus ticks a moment; nothing else mixes.
-#[derive(Drop)]
+#[derive(Clone, Copy)]
 pub struct Ticks(pub u64);
 
 impl Ticks {
@@ -93,7 +93,7 @@ pub fn gap(before: Moment, after: Moment) -> Ticks
 }
 
 // How a word stands to the one before it, with the distance (02 i).
-#[derive(Drop)]
+#[derive(Clone, Copy)]
 pub enum Spacing {
     // "overlapping (below 195)"
     Overlapping(Ticks),

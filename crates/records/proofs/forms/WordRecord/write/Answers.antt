@@ -1,0 +1,13 @@
+-- One law for each way out, for the number and for the bytes. Assumes nothing.
+use Rattle.records.proofs.Cases.{no_room, no_room_kept, bad_write, bad_write_kept, written, written_out}
+use borrow.Author.Rules.{rules}
+use Rattle.records.proofs.forms.WordRecord.write.Goals as goal
+
+pub returns-then-bytes-lt-RECORD_BYTES : goal.returns-then-bytes-lt-RECORD_BYTES
+returns-then-bytes-lt-RECORD_BYTES c = record { refusal = search (no_room, no_room_kept, rules); bytes = search (no_room, no_room_kept, rules) }
+
+pub returns-then-in_range : goal.returns-then-in_range
+returns-then-in_range c = record { refusal = search (written, written_out, rules); bytes = search (written, written_out, rules) }
+
+pub returns-else-in_range : goal.returns-else-in_range
+returns-else-in_range c = record { refusal = search (bad_write, bad_write_kept, rules); bytes = search (bad_write, bad_write_kept, rules) }

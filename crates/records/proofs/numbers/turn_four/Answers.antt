@@ -1,0 +1,16 @@
+-- Two parts, each below its bound. Assumes nothing.
+use Prim.Native.Nat.{◌/◌, ◌^◌}
+use mathlib.Core.Path.{sym}
+use native.Mathlib.Omega.{arith}
+use Rattle.records.proofs.Digits.{turned_lt, turned_parts}
+use borrow.Author.Rules.{rules}
+use Rattle.records.proofs.numbers.turn_four.Goals as goal
+
+pub overflow_mul-result : goal.overflow_mul-result
+overflow_mul-result c = omega (arith, turned_lt 2 c.args.number)
+
+pub overflow_add-result : goal.overflow_add-result
+overflow_add-result c = omega (arith, turned_lt 2 c.args.number, turned_lt 2 (c.args.number / 256 ^ 2))
+
+pub returns : goal.returns
+returns c = record { number = rw (c.turn_two.ensures.number, c.turn_two-2.ensures.number) (sym (turned_parts 2 2 c.args.number)) }

@@ -1,0 +1,5 @@
+-- The test is of the field. Assumes nothing.
+use Rattle.words.proofs.commands.CommandWord.is_transmit.Goals as goal
+
+pub returns : goal.returns
+returns c = record { answer = rw c.transmit.ensures.field }
