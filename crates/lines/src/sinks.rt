@@ -6,24 +6,60 @@ ghost use Rattle.lines.specs.Names.{place_after_name, block_after_name, place_af
 
 use crate::names::shown;
 use crate::spells::{digit, spell_byte, spell_text};
+use std::fs::File;
+use std::io::{Error, ErrorKind, Print, Result, Stdout, Write};
+
+// the number of standard error, which needs no handle: what is said there is said whatever becomes of it
+pub(crate) const ERRORS: i32 = 2;
 
 // The bytes that wait, from the front on.
 pub type Block = [u8; 65536];
 
 const BLOCK_BYTES: usize = 65536;
 
-// Where bytes go, how many wait in the block, and whether a write has failed: then the others are dropped.
+// An open file: standard output, standard error, or one that was made.
 #[derive(Clone, Copy)]
-pub struct Sink {
-    pub fd: i32,
-    pub at: usize,
-    pub failed: bool,
+pub enum Target<'a> {
+    Output(Stdout),
+    Errors,
+    Made(&'a File),
 }
 
-impl Sink {
+impl<'a> Target<'a> {
+    // Writes all bytes, or gives why it could not.
+    fn write(self, bytes: &[u8]) -> Result<()> {
+        match self {
+            Target::Output(output) => Print::write_all(&output, bytes),
+            Target::Errors => write_errors(bytes),
+            Target::Made(file) => {
+                let mut made = file;
+                Write::write_all(&mut made, bytes)
+            }
+        }
+    }
+}
+
+// Writes all bytes to standard error.
+fn write_errors(bytes: &[u8]) -> Result<()> {
+    if io::write_all(ERRORS, bytes) {
+        return Ok(());
+    }
+    Err(Error::from(ErrorKind::Other))
+}
+
+// Where bytes go, how many wait in the block, and whether a write has failed: then the others are dropped. `why` is the system's number of that failure.
+#[derive(Clone, Copy)]
+pub struct Sink<'a> {
+    pub fd: Target<'a>,
+    pub at: usize,
+    pub failed: bool,
+    pub why: i32,
+}
+
+impl<'a> Sink<'a> {
     // Gives a sink for an open file, with no byte waiting.
     // Tables: none. Refusals: none.
-    pub fn to(fd: i32) -> Sink
+    pub fn to(fd: Target<'a>) -> Sink<'a>
         ensures place { result.at ≡ 0 }
         ensures file { result.fd ≡ fd }
         ensures unfailed { result.failed ≡ false }
@@ -32,11 +68,12 @@ impl Sink {
             fd,
             at: 0,
             failed: false,
+            why: 0,
         }
     }
 
     // Writes bytes at once, with none waiting behind them. Nothing follows what failed, so that a file never has a hole.
-    fn write(self, bytes: &[u8]) -> Sink
+    fn write(self, bytes: &[u8]) -> Sink<'a>
         ensures place { result.at ≡ 0 }
         ensures file { result.fd ≡ self.fd }
         ensures stays { self.failed ≡ true → result.failed ≡ true }
@@ -46,13 +83,27 @@ impl Sink {
         if self.failed {
             return next;
         }
-        next.failed = !io::write_all(self.fd, bytes);
+        match self.fd.write(bytes) {
+            Ok(()) => next,
+            Err(error) => next.fail_by(error),
+        }
+    }
+
+    // Gives the sink after a write that failed.
+    fn fail_by(self, error: Error) -> Sink<'a>
+        ensures place { result.at ≡ self.at }
+        ensures file { result.fd ≡ self.fd }
+        ensures failed { result.failed ≡ true }
+    {
+        let mut next = self;
+        next.failed = true;
+        next.why = error.raw_os_error().unwrap_or(0);
         next
     }
 
     // Gives the sink with all that waited written.
     // Tables: block is only read. Refusals: none; `failed` says whether a write has failed.
-    pub fn flush(self, block: &Block) -> Sink
+    pub fn flush(self, block: &Block) -> Sink<'a>
         ensures place { result.at ≡ 0 }
         ensures file { result.fd ≡ self.fd }
         ensures stays { self.failed ≡ true → result.failed ≡ true }
@@ -62,7 +113,7 @@ impl Sink {
 
     // Gives the sink with one byte more. A full block is written first.
     // Tables: block holds what was put where it waits, and is else as before. Refusals: none; `failed` says whether a write has failed.
-    pub fn put(self, block: &mut Block, byte: u8) -> Sink
+    pub fn put(self, block: &mut Block, byte: u8) -> Sink<'a>
         ensures place { result.at ≡ place_after self.at 1 }
         ensures file { result.fd ≡ self.fd }
         ensures block { block.new ≡ block_after block.old self.at (byte ∷ []) }
@@ -81,7 +132,7 @@ impl Sink {
 
     // Gives the sink with room for so many bytes, at most a block: where they do not fit behind what waits, that is written first.
     // Tables: block is only read. Refusals: none; `failed` says whether a write has failed.
-    pub fn with_room(self, block: &Block, count: usize) -> Sink
+    pub fn with_room(self, block: &Block, count: usize) -> Sink<'a>
         ensures place { result.at ≡ room_at self.at count }
         ensures file { result.fd ≡ self.fd }
         ensures stays { self.failed ≡ true → result.failed ≡ true }
@@ -93,7 +144,7 @@ impl Sink {
     }
 
     // Puts a text behind what waits, where it fits.
-    fn append(self, block: &mut Block, text: &[u8]) -> Sink
+    fn append(self, block: &mut Block, text: &[u8]) -> Sink<'a>
         requires { self.at + length text.now ≤ block_bytes }
         ensures place { result.at ≡ self.at + length text.now }
         ensures file { result.fd ≡ self.fd }
@@ -107,7 +158,7 @@ impl Sink {
 
     // Gives the sink with a text more. Where it does not fit behind what waits, that is written first, and a text of a block or more with it.
     // Tables: block holds the text where it waits, and is else as before; text is only read. Refusals: none; `failed` says whether a write has failed.
-    pub fn put_text(self, block: &mut Block, text: &[u8]) -> Sink
+    pub fn put_text(self, block: &mut Block, text: &[u8]) -> Sink<'a>
         ensures place { result.at ≡ place_after self.at (length text.now) }
         ensures file { result.fd ≡ self.fd }
         ensures block { block.new ≡ block_after block.old self.at text.now }
@@ -125,7 +176,7 @@ impl Sink {
 
     // Gives the sink with a number more, in decimal.
     // Tables: block holds what was put where it waits, and is else as before. Refusals: none; `failed` says whether a write has failed.
-    pub fn put_decimal(self, block: &mut Block, number: u64) -> Sink
+    pub fn put_decimal(self, block: &mut Block, number: u64) -> Sink<'a>
         ensures place { result.at ≡ place_after self.at (length (decimal_text number)) }
         ensures file { result.fd ≡ self.fd }
         ensures block { block.new ≡ block_after block.old self.at (decimal_text number) }
@@ -138,7 +189,7 @@ impl Sink {
 
     // Gives the sink with a word more, as four hexadecimal capitals.
     // Tables: block holds what was put where it waits, and is else as before. Refusals: none; `failed` says whether a write has failed.
-    pub fn put_word(self, block: &mut Block, word: u16) -> Sink
+    pub fn put_word(self, block: &mut Block, word: u16) -> Sink<'a>
         ensures place { result.at ≡ place_after self.at 4 }
         ensures file { result.fd ≡ self.fd }
         ensures block { block.new ≡ block_after block.old self.at (word_text word) }
@@ -155,7 +206,7 @@ impl Sink {
 
     // Gives the sink with a text more, and the number behind it, in decimal.
     // Tables: block holds what was put where it waits, and is else as before; text is only read. Refusals: none; `failed` says whether a write has failed.
-    pub fn put_number(self, block: &mut Block, text: &[u8], number: u64) -> Sink
+    pub fn put_number(self, block: &mut Block, text: &[u8], number: u64) -> Sink<'a>
         ensures place { result.at ≡ place_after (place_after self.at (length text.now)) (length (decimal_text number)) }
         ensures file { result.fd ≡ self.fd }
         ensures block { block.new ≡ block_after (block_after block.old self.at text.now) (place_after self.at (length text.now)) (decimal_text number) }
@@ -166,7 +217,7 @@ impl Sink {
 
     // Gives the sink with a name more, each byte as it is shown.
     // Tables: block holds what was put where it waits, and is else as before; name is only read. Refusals: none; `failed` says whether a write has failed.
-    pub fn put_name(self, block: &mut Block, name: &[u8]) -> Sink
+    pub fn put_name(self, block: &mut Block, name: &[u8]) -> Sink<'a>
         ensures place { result.at ≡ place_after_name self.at name.now }
         ensures file { result.fd ≡ self.fd }
         ensures block { block.new ≡ block_after_name block.old self.at name.now }
@@ -183,7 +234,7 @@ impl Sink {
 
     // Gives the sink with a line more that ends in a name: "# error NAME".
     // Tables: block holds what was put where it waits, and is else as before; begin and name are only read. Refusals: none; `failed` says whether a write has failed.
-    pub fn put_named(self, block: &mut Block, begin: &[u8], name: &[u8]) -> Sink
+    pub fn put_named(self, block: &mut Block, begin: &[u8], name: &[u8]) -> Sink<'a>
         ensures place { result.at ≡ place_after_named self.at begin.now name.now }
         ensures file { result.fd ≡ self.fd }
         ensures block { block.new ≡ block_after_named block.old self.at begin.now name.now }
