@@ -72,9 +72,9 @@ pub fn hold_errors(rt: HostRuntime) {
     }
 }
 
-impl<'a> Sink<'a> {
+impl Sink {
     // Gives the sink with the beginning of a sentence more: "PROGRAM: NAME".
-    fn put_sentence(self, block: &mut Block, program: &[u8], name: &[u8]) -> Sink<'a>
+    fn put_sentence(self, block: &mut Block, program: &[u8], name: &[u8]) -> Sink
         ensures place { result.at ≡ place_after_sentence self.at program.now name.now }
         ensures file { result.fd ≡ self.fd }
         ensures block { block.new ≡ block_after_sentence block.old self.at program.now name.now }
@@ -88,7 +88,7 @@ impl<'a> Sink<'a> {
     // Gives the sink with all that waited written, and says a failure of this flush, as one of standard output. Who puts lines must have flushed, or looked at
     // `failed`, before: a failure of a put is not said here.
     // Tables: block and program are only read. Refusals: none; `failed` says whether a write has failed.
-    pub fn flush_told(self, block: &Block, program: &[u8]) -> Sink<'a>
+    pub fn flush_told(self, block: &Block, program: &[u8]) -> Sink
         ensures place { result.at ≡ 0 }
         ensures file { result.fd ≡ self.fd }
         ensures stays { self.failed ≡ true → result.failed ≡ true }
@@ -102,7 +102,7 @@ impl<'a> Sink<'a> {
 
     // Ends the lines by the name of the file that failed: "# error NAME". Those that wait go out first, so that a failure of theirs is seen.
     // Tables: block holds that line where it waits, from the front on; program and name are only read. Refusals: none; `failed` says whether a write has failed.
-    pub fn end_in_error(self, block: &mut Block, program: &[u8], name: &[u8]) -> Sink<'a>
+    pub fn end_in_error(self, block: &mut Block, program: &[u8], name: &[u8]) -> Sink
         ensures place { result.at ≡ 0 }
         ensures file { result.fd ≡ self.fd }
         ensures block { block.new ≡ block_after_named block.old 0 error_text name.now }
@@ -115,7 +115,7 @@ impl<'a> Sink<'a> {
 
     // Says what failed, by the system's number for it, and ends the lines by its name.
     // Tables: block holds that line where it waits, from the front on; program and name are only read. Refusals: none; `failed` says whether a write has failed.
-    pub fn fail(self, block: &mut Block, program: &[u8], name: &[u8], why: i32) -> Sink<'a>
+    pub fn fail(self, block: &mut Block, program: &[u8], name: &[u8], why: i32) -> Sink
         ensures place { result.at ≡ 0 }
         ensures file { result.fd ≡ self.fd }
         ensures block { block.new ≡ block_after_named block.old 0 error_text name.now }

@@ -1,7 +1,7 @@
 // Files by the names that were given, any bytes, and what is read of them or of standard input (02 a, c, j). What the system has no contract can say. Refusals: none; where
 // the system refuses, its number for that is given.
 use std::fs::{File, OpenOptions};
-use std::io::{Error, Read, Stdin};
+use std::io::{Error, Read, Seek, Stdin, Write};
 
 // the system's number for a name that is no text: files are opened by names in UTF-8 alone
 const NO_TEXT: i32 = 84;
@@ -38,6 +38,22 @@ pub fn make_named(rt: HostRuntime, name: &[u8]) -> Result<File, i32> {
             .open(&rt, text)
             .map_err(number_of),
         Err(_) => Err(NO_TEXT),
+    }
+}
+
+// Gives the system's number for why a write to a file that was made failed, 0 where it has none: it tries one byte more, and takes it back where the system takes it.
+// Tables: none. Refusals: none.
+pub fn failure_of(file: &File) -> i32 {
+    let mut made = file;
+    let place = made.stream_position();
+    match made.write(b" ") {
+        Ok(_) => {
+            if let Ok(end) = place {
+                let _ = file.set_len(end);
+            }
+            0
+        }
+        Err(error) => number_of(error),
     }
 }
 

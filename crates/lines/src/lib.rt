@@ -12,7 +12,7 @@ mod sinks;
 mod spells;
 
 pub use complaints::{begin_complaint, complain, hold_errors, remark};
-pub use files::{Source, make_named, number_of, open_named};
+pub use files::{Source, failure_of, make_named, number_of, open_named};
 pub use names::{NAME_BYTES, is_dash, is_same};
 pub use numbers::{NO_DIGIT, Number, read_decimal, read_digit, read_hexadecimal};
 pub use parts::{between, part_end};

@@ -6,8 +6,7 @@ ghost use Rattle.lines.specs.Names.{place_after_name, block_after_name, place_af
 
 use crate::names::shown;
 use crate::spells::{digit, spell_byte, spell_text};
-use std::fs::File;
-use std::io::{Error, ErrorKind, Print, Result, Stdout, Write};
+use std::io::{Error, ErrorKind, Print, Result, Stdout};
 
 // the number of standard error, which needs no handle: what is said there is said whatever becomes of it
 pub(crate) const ERRORS: i32 = 2;
@@ -17,31 +16,28 @@ pub type Block = [u8; 65536];
 
 const BLOCK_BYTES: usize = 65536;
 
-// An open file: standard output, standard error, or one that was made.
+// An open file: standard output, standard error, or one that was made, by its descriptor's number.
 #[derive(Clone, Copy)]
-pub enum Target<'a> {
+pub enum Target {
     Output(Stdout),
     Errors,
-    Made(&'a File),
+    Made(i32),
 }
 
-impl<'a> Target<'a> {
-    // Writes all bytes, or gives why it could not.
+impl Target {
+    // Writes all bytes, or gives why it could not; of a file that was made its owner finds that out (`failure_of`).
     fn write(self, bytes: &[u8]) -> Result<()> {
         match self {
             Target::Output(output) => Print::write_all(&output, bytes),
-            Target::Errors => write_errors(bytes),
-            Target::Made(file) => {
-                let mut made = file;
-                Write::write_all(&mut made, bytes)
-            }
+            Target::Errors => write_to(ERRORS, bytes),
+            Target::Made(number) => write_to(number, bytes),
         }
     }
 }
 
-// Writes all bytes to standard error.
-fn write_errors(bytes: &[u8]) -> Result<()> {
-    if io::write_all(ERRORS, bytes) {
+// Writes all bytes to an open file.
+fn write_to(number: i32, bytes: &[u8]) -> Result<()> {
+    if io::write_all(number, bytes) {
         return Ok(());
     }
     Err(Error::from(ErrorKind::Other))
@@ -49,17 +45,17 @@ fn write_errors(bytes: &[u8]) -> Result<()> {
 
 // Where bytes go, how many wait in the block, and whether a write has failed: then the others are dropped. `why` is the system's number of that failure.
 #[derive(Clone, Copy)]
-pub struct Sink<'a> {
-    pub fd: Target<'a>,
+pub struct Sink {
+    pub fd: Target,
     pub at: usize,
     pub failed: bool,
     pub why: i32,
 }
 
-impl<'a> Sink<'a> {
+impl Sink {
     // Gives a sink for an open file, with no byte waiting.
     // Tables: none. Refusals: none.
-    pub fn to(fd: Target<'a>) -> Sink<'a>
+    pub fn to(fd: Target) -> Sink
         ensures place { result.at ≡ 0 }
         ensures file { result.fd ≡ fd }
         ensures unfailed { result.failed ≡ false }
@@ -73,7 +69,7 @@ impl<'a> Sink<'a> {
     }
 
     // Writes bytes at once, with none waiting behind them. Nothing follows what failed, so that a file never has a hole.
-    fn write(self, bytes: &[u8]) -> Sink<'a>
+    fn write(self, bytes: &[u8]) -> Sink
         ensures place { result.at ≡ 0 }
         ensures file { result.fd ≡ self.fd }
         ensures stays { self.failed ≡ true → result.failed ≡ true }
@@ -90,7 +86,7 @@ impl<'a> Sink<'a> {
     }
 
     // Gives the sink after a write that failed.
-    fn fail_by(self, error: Error) -> Sink<'a>
+    fn fail_by(self, error: Error) -> Sink
         ensures place { result.at ≡ self.at }
         ensures file { result.fd ≡ self.fd }
         ensures failed { result.failed ≡ true }
@@ -103,7 +99,7 @@ impl<'a> Sink<'a> {
 
     // Gives the sink with all that waited written.
     // Tables: block is only read. Refusals: none; `failed` says whether a write has failed.
-    pub fn flush(self, block: &Block) -> Sink<'a>
+    pub fn flush(self, block: &Block) -> Sink
         ensures place { result.at ≡ 0 }
         ensures file { result.fd ≡ self.fd }
         ensures stays { self.failed ≡ true → result.failed ≡ true }
@@ -113,7 +109,7 @@ impl<'a> Sink<'a> {
 
     // Gives the sink with one byte more. A full block is written first.
     // Tables: block holds what was put where it waits, and is else as before. Refusals: none; `failed` says whether a write has failed.
-    pub fn put(self, block: &mut Block, byte: u8) -> Sink<'a>
+    pub fn put(self, block: &mut Block, byte: u8) -> Sink
         ensures place { result.at ≡ place_after self.at 1 }
         ensures file { result.fd ≡ self.fd }
         ensures block { block.new ≡ block_after block.old self.at (byte ∷ []) }
@@ -132,7 +128,7 @@ impl<'a> Sink<'a> {
 
     // Gives the sink with room for so many bytes, at most a block: where they do not fit behind what waits, that is written first.
     // Tables: block is only read. Refusals: none; `failed` says whether a write has failed.
-    pub fn with_room(self, block: &Block, count: usize) -> Sink<'a>
+    pub fn with_room(self, block: &Block, count: usize) -> Sink
         ensures place { result.at ≡ room_at self.at count }
         ensures file { result.fd ≡ self.fd }
         ensures stays { self.failed ≡ true → result.failed ≡ true }
@@ -144,7 +140,7 @@ impl<'a> Sink<'a> {
     }
 
     // Puts a text behind what waits, where it fits.
-    fn append(self, block: &mut Block, text: &[u8]) -> Sink<'a>
+    fn append(self, block: &mut Block, text: &[u8]) -> Sink
         requires { self.at + length text.now ≤ block_bytes }
         ensures place { result.at ≡ self.at + length text.now }
         ensures file { result.fd ≡ self.fd }
@@ -158,7 +154,7 @@ impl<'a> Sink<'a> {
 
     // Gives the sink with a text more. Where it does not fit behind what waits, that is written first, and a text of a block or more with it.
     // Tables: block holds the text where it waits, and is else as before; text is only read. Refusals: none; `failed` says whether a write has failed.
-    pub fn put_text(self, block: &mut Block, text: &[u8]) -> Sink<'a>
+    pub fn put_text(self, block: &mut Block, text: &[u8]) -> Sink
         ensures place { result.at ≡ place_after self.at (length text.now) }
         ensures file { result.fd ≡ self.fd }
         ensures block { block.new ≡ block_after block.old self.at text.now }
@@ -176,7 +172,7 @@ impl<'a> Sink<'a> {
 
     // Gives the sink with a number more, in decimal.
     // Tables: block holds what was put where it waits, and is else as before. Refusals: none; `failed` says whether a write has failed.
-    pub fn put_decimal(self, block: &mut Block, number: u64) -> Sink<'a>
+    pub fn put_decimal(self, block: &mut Block, number: u64) -> Sink
         ensures place { result.at ≡ place_after self.at (length (decimal_text number)) }
         ensures file { result.fd ≡ self.fd }
         ensures block { block.new ≡ block_after block.old self.at (decimal_text number) }
@@ -189,7 +185,7 @@ impl<'a> Sink<'a> {
 
     // Gives the sink with a word more, as four hexadecimal capitals.
     // Tables: block holds what was put where it waits, and is else as before. Refusals: none; `failed` says whether a write has failed.
-    pub fn put_word(self, block: &mut Block, word: u16) -> Sink<'a>
+    pub fn put_word(self, block: &mut Block, word: u16) -> Sink
         ensures place { result.at ≡ place_after self.at 4 }
         ensures file { result.fd ≡ self.fd }
         ensures block { block.new ≡ block_after block.old self.at (word_text word) }
@@ -206,7 +202,7 @@ impl<'a> Sink<'a> {
 
     // Gives the sink with a text more, and the number behind it, in decimal.
     // Tables: block holds what was put where it waits, and is else as before; text is only read. Refusals: none; `failed` says whether a write has failed.
-    pub fn put_number(self, block: &mut Block, text: &[u8], number: u64) -> Sink<'a>
+    pub fn put_number(self, block: &mut Block, text: &[u8], number: u64) -> Sink
         ensures place { result.at ≡ place_after (place_after self.at (length text.now)) (length (decimal_text number)) }
         ensures file { result.fd ≡ self.fd }
         ensures block { block.new ≡ block_after (block_after block.old self.at text.now) (place_after self.at (length text.now)) (decimal_text number) }
@@ -217,7 +213,7 @@ impl<'a> Sink<'a> {
 
     // Gives the sink with a name more, each byte as it is shown.
     // Tables: block holds what was put where it waits, and is else as before; name is only read. Refusals: none; `failed` says whether a write has failed.
-    pub fn put_name(self, block: &mut Block, name: &[u8]) -> Sink<'a>
+    pub fn put_name(self, block: &mut Block, name: &[u8]) -> Sink
         ensures place { result.at ≡ place_after_name self.at name.now }
         ensures file { result.fd ≡ self.fd }
         ensures block { block.new ≡ block_after_name block.old self.at name.now }
@@ -234,7 +230,7 @@ impl<'a> Sink<'a> {
 
     // Gives the sink with a line more that ends in a name: "# error NAME".
     // Tables: block holds what was put where it waits, and is else as before; begin and name are only read. Refusals: none; `failed` says whether a write has failed.
-    pub fn put_named(self, block: &mut Block, begin: &[u8], name: &[u8]) -> Sink<'a>
+    pub fn put_named(self, block: &mut Block, begin: &[u8], name: &[u8]) -> Sink
         ensures place { result.at ≡ place_after_named self.at begin.now name.now }
         ensures file { result.fd ≡ self.fd }
         ensures block { block.new ≡ block_after_named block.old self.at begin.now name.now }
