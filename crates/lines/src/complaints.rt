@@ -25,12 +25,10 @@ pub fn begin_complaint(program: &[u8], name: &[u8])
 fn words_end(text: &[u8]) -> usize
     ensures within { result ≤ length text.now }
 {
-    let mut i = 0;
-    while i < text.len() {
+    for i in 0..text.len() {
         if text[i] == b'(' {
             return if i == 0 { 0 } else { i - 1 };
         }
-        i += 1;
     }
     text.len()
 }
@@ -41,12 +39,10 @@ pub fn complain(program: &[u8], name: &[u8], why: i32)
     ensures program { program.now ≡ program.now }
     ensures name { name.now ≡ name.now }
 {
-    begin_complaint(program, name);
     let mut reason = Cursor::new([0u8; 128]);
     let _ = write!(reason, ": {}", Error::from_raw_os_error(why));
     let text = reason.into_inner();
-    io::write_all(ERRORS, &text[..words_end(&text)]);
-    io::write_all(ERRORS, b"\n");
+    remark(program, name, &text[..words_end(&text)]);
 }
 
 // Says something of a file, as ": not whole": "PROGRAM: NAME: not whole".

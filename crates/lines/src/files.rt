@@ -1,5 +1,7 @@
 // Files by the names that were given, any bytes, and what is read of them or of standard input (02 a, c, j). What the system has no contract can say. Refusals: none; where
 // the system refuses, its number for that is given.
+ghost use Rattle.std.specs.Prelude.{◌≤◌, IfOk, length};
+
 use std::fs::{File, OpenOptions};
 use std::io::{Error, Read, Seek, Stdin, Write};
 
@@ -60,16 +62,22 @@ pub fn failure_of(file: &File) -> i32 {
 impl<'a> Source<'a> {
     // Reads some bytes to the front of the chunk and gives how many, 0 at the end, or the system's number for why it could not.
     // Tables: chunk holds what was read at its front. Refusals: none.
-    pub fn read(self, chunk: &mut [u8]) -> Result<usize, i32> {
-        match self {
+    pub fn read(self, chunk: &mut [u8]) -> Result<usize, i32>
+        ensures count { IfOk result (λ count. count ≤ length chunk.new) }
+    {
+        let got = match self {
             Source::Input(input) => {
                 let mut from = input;
-                from.read(chunk).map_err(number_of)
+                from.read(chunk)
             }
             Source::Opened(file) => {
                 let mut from = file;
-                from.read(chunk).map_err(number_of)
+                from.read(chunk)
             }
+        };
+        match got {
+            Ok(count) => Ok(count),
+            Err(error) => Err(number_of(error)),
         }
     }
 }
