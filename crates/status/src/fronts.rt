@@ -1,6 +1,6 @@
 // The front of a call: `--status-fd N` and `--version`, before all else (docs/LINES.md, "The status"). What the system hands out and takes no contract can say: what each
 // function gives whatever that is, it promises. Meaning: specs/Fronts.antt. Refusals: none.
-ghost use Rattle.std.specs.Prelude.{◌≡◌, true, false, ◌⊎◌, pos};
+ghost use Rattle.std.specs.Prelude.{◌≡◌, true, false, ◌⊎◌, ◌≤◌, pos, length};
 ghost use Rattle.status.specs.Fronts.{descriptor_of, is_number, front_of, front_in, usage_of};
 
 use crate::arguments::{ask, is_at};
@@ -58,7 +58,9 @@ fn descriptor_of(text: &[u8]) -> Descriptor
 }
 
 // Gives the path under which the system shows a descriptor, and its length.
-fn path_of(fd: i32) -> ([u8; 28], usize) {
+fn path_of(fd: i32) -> ([u8; 28], usize)
+    ensures within { result.1 ≤ length result.0 }
+{
     let mut path = *b"/dev/fd/                    ";
     let mut digits = [0u8; 20];
     let count = io::decimal(fd.unsigned_abs() as u64, &mut digits);
