@@ -1,0 +1,6 @@
+-- The word at its own place. Assumes nothing.
+use borrow.Author.Rules.{rules}
+use Rattle.terminal.proofs.states.Message.with_word.Goals as goal
+
+pub returns : goal.returns
+returns c = record { message = rw (c.build.ensures.message, c.with_word-words.ensures.words) }

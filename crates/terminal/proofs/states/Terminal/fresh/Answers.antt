@@ -1,0 +1,6 @@
+-- Each part fresh. Assumes nothing.
+use borrow.Author.Rules.{rules}
+use Rattle.terminal.proofs.states.Terminal.fresh.Goals as goal
+
+pub returns : goal.returns
+returns c = record { terminal = rw (c.none-sending.ensures.sending, c.none-message.ensures.message, c.fresh-held.ensures.held, c.fresh-host.ensures.host) }
