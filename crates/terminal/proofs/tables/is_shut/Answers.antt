@@ -4,4 +4,4 @@ use borrow.Author.Rules.{rules}
 use Rattle.terminal.proofs.tables.is_shut.Goals as goal
 
 pub returns-else-at-lt-BUSES : goal.returns-else-at-lt-BUSES
-returns-else-at-lt-BUSES c = record { answer = none_past c.args.t1 c.args.bus (search rules) }
+returns-else-at-lt-BUSES c = record { answer = none_past c.args.shut c.args.bus (search rules) }

@@ -10,7 +10,7 @@ use lib.Seq.{paste, paste-zero, paste-suc, length-paste}
 use Rattle.terminal.proofs.tables.store.Goals as goal
 
 pub loop-i-init : goal.loop-i-init
-loop-i-init c = (search rules, search rules, refl, paste-zero c.args.table.now c.args.at c.args.t3)
+loop-i-init c = (search rules, search rules, refl, paste-zero c.args.table.now c.args.at c.args.words)
 
 pub bounds-words-i : goal.bounds-words-i
 bounds-words-i c = omega arith
@@ -31,7 +31,7 @@ pub loop-i-preserved : goal.loop-i-preserved
 loop-i-preserved c =
     let l = c.loop-i in
     let a = c.args in
-    (omega arith, l.invariant.1, simp length-set l.invariant.2, rw (l.invariant.3, add-one) (paste-suc a.table.now a.at a.t3 l.i 0 (omega arith) (omega arith)))
+    (omega arith, l.invariant.1, simp length-set l.invariant.2, rw (l.invariant.3, add-one) (paste-suc a.table.now a.at a.words l.i 0 (omega arith) (omega arith)))
 
 pub shape_of-table : goal.shape_of-table
 shape_of-table c = c.loop-i.invariant.2

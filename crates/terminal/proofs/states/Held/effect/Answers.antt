@@ -1,5 +1,5 @@
 -- By the code. Assumes nothing.
-use borrow.Author.Tests.{ne_eqb}
+use native.Mathlib.Omega.{arith}
 use Rattle.terminal.specs.Effects.{effect_of}
 use borrow.Author.Rules.{rules}
 use Rattle.terminal.proofs.states.Held.effect.Goals as goal
@@ -38,8 +38,4 @@ returns-in-17 c = record { held = rw (c.in-17.is, c.with_sync_word-in-17.ensures
 
 pub returns-in_default : goal.returns-in_default
 unfolding effect_of
-returns-in_default c =
-    record {
-      held = let r = c.in-1.rest in
-          rw (ne_eqb _ _ r.0.0.0.0.0.0.0.1, ne_eqb _ _ r.0.0.0.0.0.0.1, ne_eqb _ _ r.0.0.0.0.0.1, ne_eqb _ _ r.0.0.0.0.1, ne_eqb _ _ r.0.0.0.1, ne_eqb _ _ r.0.0.1, ne_eqb _ _ r.0.1, ne_eqb _ _ r.1);
-    }
+returns-in_default c = record { held = grind arith }

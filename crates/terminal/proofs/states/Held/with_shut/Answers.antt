@@ -10,6 +10,5 @@ pub returns-else-at-lt-BUSES : goal.returns-else-at-lt-BUSES
 returns-else-at-lt-BUSES c =
     record {
       held = let a = c.args in
-          let buses : length a.self.shut ≡ 2 = sym (length-map a.self.shut (λ on. on)) ∙ c.well-formed.0.1.1.1.1.1.1.1.0.1.0.1 in
-          rw (set_past a.self.shut a.bus a.on (omega (arith, buses, c.if-at-lt-BUSES.false)));
+          rw (set_past a.self.shut a.bus a.on (search rules));
     }

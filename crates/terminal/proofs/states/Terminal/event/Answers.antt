@@ -21,7 +21,7 @@ returns-then-refusal-ne0 c =
     ∙ ap (λ (x : Told). event_refusal a.self (Word x.heard) (length a.receive.now) (length a.transmit.now)) told
     ∙ told_refused a.self a.event (length a.receive.now) (length a.transmit.now) in
     let some = ne_eqb _ _ (λ z. c.if-refusal-ne0.true (refusal ∙ z)) in
-    (rw some (c.refused.ensures.happened ∙ ap (refused_of _) refusal), rw some refl)
+    record { happened = rw some (c.refused.ensures.happened ∙ ap (refused_of _) refusal); receive = rw some refl }
 
 pub pass-passed-requires : goal.pass-passed-requires
 pass-passed-requires c =
@@ -47,7 +47,8 @@ returns c =
     ∙ told_refused a.self a.event (length a.receive.now) (length a.transmit.now) in
     let none = eq-eqb _ _ (sym refusal ∙ c.if-refusal-ne0.false) in
     let time = ap (λ (x : Told). x.heard.time.0) told ∙ told_time a.event in
-    let gave = c.pass-passed.ensures in (
-      rw none (happens a.self a.event a.transmit.now _ _ _ _ _ _ _ told gave.0 gave.1.0 c.heard_meaning-meaning.ensures.meaning c.cuts_sending-cut.ensures.answer c.changed-taken.ensures.work c.with_work-terminal.ensures.terminal),
-      rw (none, ← time) gave.1.1,
-    )
+    let gave = c.pass-passed.ensures in
+    record {
+      happened = rw none (happens a.self a.event a.transmit.now _ _ _ _ _ _ _ told gave.work gave.answer c.heard_meaning-meaning.ensures.meaning c.cuts_sending-cut.ensures.answer c.changed-taken.ensures.work c.with_work-terminal.ensures.terminal);
+      receive = rw (none, ← time) gave.receive;
+    }

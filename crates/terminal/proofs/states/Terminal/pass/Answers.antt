@@ -15,10 +15,14 @@ unfolding rule1_answer rule1_receive
 returns-then-is_due c =
     let due = sym c.is_due.ensures.answer ∙ c.if-is_due.true in
     let gave = c.settle.ensures in
-    (gave.1.0 ∙ sym (passed_settled _ _ _ due), (rw due gave.0, rw due gave.1.1))
+    record { work = gave.work ∙ sym (passed_settled _ _ _ due); answer = rw due gave.answer; receive = rw due gave.receive }
 
 pub returns : goal.returns
 unfolding rule1_answer rule1_receive
 returns c =
     let due = sym c.is_due.ensures.answer ∙ c.if-is_due.false in
-    (rw (c.rule2-work.ensures.work, c.work-before.ensures.work) (sym (passed_waiting _ _ _ due)), (rw due c.none-answer.ensures.answer, rw due refl))
+    record {
+      work = rw (c.rule2-work.ensures.work, c.work-before.ensures.work) (sym (passed_waiting _ _ _ due));
+      answer = rw due c.none-answer.ensures.answer;
+      receive = rw due refl;
+    }

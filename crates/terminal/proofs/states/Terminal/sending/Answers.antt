@@ -15,5 +15,5 @@ unfolding sending_of
 returns c =
     record {
       sending = let a = c in
-          rw (sym c.is_withheld.ensures.answer ∙ c.if-is_withheld.false, moment_is _ _ (c.plus-from.ensures.later ∙ plus_fits a.args.self.message.last.0 260 a.requires.0));
+          rw (sym c.is_withheld.ensures.answer ∙ c.if-is_withheld.false, moment_is _ _ (c.plus-from.ensures.later ∙ plus_fits a.args.self.message.last.0 260 a.requires.due_distance_bound));
     }

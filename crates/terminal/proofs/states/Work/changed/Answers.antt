@@ -9,7 +9,8 @@ use Rattle.terminal.specs.declared.states.Message.{Message}
 use borrow.Author.Rules.{rules}
 use Rattle.terminal.proofs.states.Work.changed.Goals as goal
 
-with-word-requires c κs = omega (arith, c.before.before.before.before.before.requires c.before.enum-told5.given.1, ap (λ (m : Message). m.got) c.at-phase3.ensures)
+pub with_word-requires : goal.with_word-requires
+with_word-requires c = omega (arith, c.requires c.in-DataWord.is, ap (λ (m : Message). m.got) c.at_phase-moved.ensures.message)
 
 pub returns-in-Ignored : goal.returns-in-Ignored
 unfolding changed_of
