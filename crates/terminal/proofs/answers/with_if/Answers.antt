@@ -1,5 +1,4 @@
 -- By whether it is on. Assumes nothing.
-use borrow.Author.Rules.{rules}
 use Rattle.terminal.proofs.answers.with_if.Goals as goal
 
 pub returns-then-on : goal.returns-then-on

@@ -1,6 +1,5 @@
 -- The tests of the fields. Assumes nothing.
 use Rattle.terminal.specs.Commands.{is_exempt}
-use borrow.Author.Rules.{rules}
 use Rattle.terminal.proofs.commands.is_exempt.Goals as goal
 
 pub returns : goal.returns

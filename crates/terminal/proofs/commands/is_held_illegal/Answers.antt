@@ -1,6 +1,5 @@
 -- The tests of the code, and the code table's. Assumes nothing.
 use Rattle.terminal.specs.Commands.{is_held_illegal}
-use borrow.Author.Rules.{rules}
 use Rattle.terminal.proofs.commands.is_held_illegal.Goals as goal
 
 pub returns : goal.returns

@@ -1,7 +1,6 @@
 -- By whether it is a mode command. Assumes nothing.
 use mathlib.Core.Path.{sym, ◌∙◌}
 use Rattle.terminal.specs.Commands.{is_legal}
-use borrow.Author.Rules.{rules}
 use Rattle.terminal.proofs.commands.is_legal.Goals as goal
 
 pub returns-then-is_mode : goal.returns-then-is_mode

@@ -1,6 +1,5 @@
 -- The tests of the record and of its address. Assumes nothing.
 use Rattle.terminal.specs.Commands.{is_own}
-use borrow.Author.Rules.{rules}
 use Rattle.terminal.proofs.commands.is_own.Goals as goal
 
 pub returns : goal.returns

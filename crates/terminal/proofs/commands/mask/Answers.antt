@@ -1,7 +1,6 @@
 -- By the T/R bit. Assumes nothing.
 use mathlib.Core.Path.{sym, ◌∙◌}
 use Rattle.terminal.specs.Commands.{mask_of}
-use borrow.Author.Rules.{rules}
 use Rattle.terminal.proofs.commands.mask.Goals as goal
 
 pub returns-then-is_transmit : goal.returns-then-is_transmit

@@ -1,6 +1,5 @@
 -- The tests of the record and of its address. Assumes nothing.
 use Rattle.terminal.specs.Messages.{is_status_from}
-use borrow.Author.Rules.{rules}
 use Rattle.terminal.proofs.messages.is_status_from.Goals as goal
 
 pub returns : goal.returns

@@ -1,7 +1,6 @@
 -- By the T/R bit, and by whether it is a mode command. Assumes nothing.
 use mathlib.Core.Path.{sym, ◌∙◌}
 use Rattle.terminal.specs.Rules.{first_phase}
-use borrow.Author.Rules.{rules}
 use Rattle.terminal.proofs.rules.first_phase.Goals as goal
 
 pub returns-then-is_transmit : goal.returns-then-is_transmit

@@ -1,8 +1,7 @@
 -- The loop's invariant: the first i masks are those of the table, the rest zeros. Assumes nothing.
 use mathlib.Core.Path.{◌≡◌, refl, ap, ◌∙◌}
-use Prim.Native.Nat.{ℕ, ◌-◌, ◌≤◌}
 use native.Mathlib.Omega.{arith}
-use lib.ListN.{length, replicate, length-set}
+use lib.ListN.{replicate, length-set}
 use lib.Seq.{paste, paste-zero}
 use Rattle.terminal.proofs.Copies.{copy_suc, copy_all}
 use Rattle.terminal.proofs.setups.masks.Goals as goal

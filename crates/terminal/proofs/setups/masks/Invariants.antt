@@ -1,10 +1,8 @@
 -- The loop's invariant: the first i masks are those of the table, the rest zeros. Assumes nothing.
-use mathlib.Core.Path.{◌≡◌, refl, ap, ◌∙◌}
-use Prim.Native.Nat.{ℕ, ◌-◌, ◌≤◌}
-use native.Mathlib.Omega.{arith}
-use lib.ListN.{length, replicate, length-set}
-use lib.Seq.{paste, paste-zero}
-use Rattle.terminal.proofs.Copies.{copy_suc, copy_all}
+use mathlib.Core.Path.{◌≡◌}
+use Prim.Native.Nat.{◌-◌, ◌≤◌}
+use lib.ListN.{length, replicate}
+use lib.Seq.{paste}
 use Rattle.terminal.proofs.setups.masks.Given as goal
 
 abbrev pub invariant-loop-i : goal.invariant-loop-i

@@ -4,7 +4,6 @@ use borrow.Author.Tests.{eq-eqb, ne_eqb}
 use Rattle.terminal.specs.Events.{set_up_of}
 use Rattle.terminal.proofs.Accepted.{set_up_tables}
 use Rattle.terminal.proofs.Wrapped.{refusal_is}
-use borrow.Author.Rules.{rules}
 use Rattle.terminal.proofs.setups.set_up.Goals as goal
 
 pub masks-received-requires : goal.masks-received-requires

@@ -1,11 +1,8 @@
 -- The loop's invariant: the first i words are those of the table from the place on, the rest zeros. Assumes nothing.
-use mathlib.Core.Path.{◌≡◌, refl, sym, ap, ◌∙◌}
-use Prim.Native.Nat.{ℕ, ◌+◌, ◌-◌, ◌≤◌, ◌<◌}
-use native.Mathlib.Nat.{zero-add}
-use native.Mathlib.Numerals.{add-one}
+use mathlib.Core.Path.{◌≡◌, refl, ◌∙◌}
 use native.Mathlib.Omega.{arith}
-use lib.ListN.{length, drop, replicate, length-set, length-drop}
-use lib.Seq.{paste, paste-zero, paste-suc, get_or-drop}
+use lib.ListN.{drop, replicate, length-set}
+use lib.Seq.{paste-zero}
 use Rattle.terminal.proofs.Copies.{fetch_suc}
 use Rattle.terminal.proofs.tables.fetch.Goals as goal
 

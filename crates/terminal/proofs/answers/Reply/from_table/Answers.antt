@@ -1,7 +1,6 @@
 -- The count is at most 32, so the words of a subaddress lie in the table. Assumes nothing.
 use native.Mathlib.Omega.{arith}
 use Rattle.words.proofs.Counts.{words_most}
-use borrow.Author.Rules.{rules}
 use Rattle.terminal.proofs.answers.Reply.from_table.Goals as goal
 
 pub fetch-words-requires : goal.fetch-words-requires

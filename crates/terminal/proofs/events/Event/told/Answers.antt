@@ -1,7 +1,6 @@
 -- By the event. Assumes nothing.
 use mathlib.Core.Path.{sym, ap}
 use Rattle.terminal.specs.Works.{told_of}
-use borrow.Author.Rules.{rules}
 use Rattle.terminal.proofs.events.Event.told.Goals as goal
 
 pub returns-in-Mark : goal.returns-in-Mark

@@ -1,7 +1,6 @@
 -- By the code. Assumes nothing.
 use native.Mathlib.Omega.{arith}
 use Rattle.terminal.specs.Effects.{effect_of}
-use borrow.Author.Rules.{rules}
 use Rattle.terminal.proofs.states.Held.effect.Goals as goal
 
 pub returns-in-1 : goal.returns-in-1

@@ -1,6 +1,5 @@
 -- The status is that of the own address alone. Assumes nothing.
 use Rattle.terminal.proofs.Wrapped.{status_is_lem}
-use borrow.Author.Rules.{rules}
 use Rattle.terminal.proofs.states.Held.fresh.Goals as goal
 
 pub returns : goal.returns

@@ -1,7 +1,6 @@
 -- By the fault. Assumes nothing.
 use mathlib.Core.Path.{sym, ap, ◌∙◌}
 use Rattle.terminal.specs.Rules.{kept_by}
-use borrow.Author.Rules.{rules}
 use Rattle.terminal.proofs.states.Held.kept.Goals as goal
 
 pub returns-in-Overlapping : goal.returns-in-Overlapping

@@ -1,6 +1,5 @@
 -- By whether the command is exempt. Assumes nothing.
 use mathlib.Core.Path.{sym, ◌∙◌}
-use borrow.Author.Rules.{rules}
 use Rattle.terminal.proofs.states.Held.marked.Goals as goal
 
 pub returns-then-is_exempt : goal.returns-then-is_exempt

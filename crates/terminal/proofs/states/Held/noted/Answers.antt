@@ -1,5 +1,4 @@
 -- One after the other. Assumes nothing.
-use borrow.Author.Rules.{rules}
 use Rattle.terminal.proofs.states.Held.noted.Goals as goal
 
 pub returns : goal.returns

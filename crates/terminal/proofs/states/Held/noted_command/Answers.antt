@@ -1,6 +1,5 @@
 -- By whether it is transmit last command to the own address. Assumes nothing.
 use Rattle.terminal.specs.Rules.{noted_command}
-use borrow.Author.Rules.{rules}
 use Rattle.terminal.proofs.states.Held.noted_command.Goals as goal
 
 pub returns-then-is_exempt-count : goal.returns-then-is_exempt-count

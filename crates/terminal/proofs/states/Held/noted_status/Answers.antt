@@ -1,7 +1,6 @@
 -- By whether it is exempt, and by whether it goes to 31. Assumes nothing.
 use mathlib.Core.Path.{sym, ◌∙◌}
 use Rattle.terminal.specs.Rules.{noted_status}
-use borrow.Author.Rules.{rules}
 use Rattle.terminal.proofs.states.Held.noted_status.Goals as goal
 
 pub returns-then-is_exempt : goal.returns-then-is_exempt

@@ -1,7 +1,4 @@
 -- A store past the end changes nothing. Assumes nothing.
-use mathlib.Core.Path.{◌≡◌, sym, ◌∙◌}
-use native.Mathlib.Omega.{arith}
-use lib.ListN.{length, length-map}
 use Rattle.terminal.proofs.Places.{set_past}
 use borrow.Author.Rules.{rules}
 use Rattle.terminal.proofs.states.Held.with_shut.Goals as goal

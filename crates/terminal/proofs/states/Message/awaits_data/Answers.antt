@@ -1,6 +1,5 @@
 -- The phase, and the words so far. Assumes nothing.
 use Rattle.terminal.specs.Messages.{awaits_data}
-use borrow.Author.Rules.{rules}
 use Rattle.terminal.proofs.states.Message.awaits_data.Goals as goal
 
 pub returns : goal.returns

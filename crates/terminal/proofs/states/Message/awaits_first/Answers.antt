@@ -2,7 +2,6 @@
 use mathlib.Core.Path.{refl}
 use Rattle.terminal.specs.declared.states.Phase.TheVariants.{Idle, First, Pledged, Confirmed, Data}
 use Rattle.terminal.proofs.Moments.{first_at_lem}
-use borrow.Author.Rules.{rules}
 use Rattle.terminal.proofs.states.Message.awaits_first.Goals as goal
 
 pub returns-in-Idle : goal.returns-in-Idle

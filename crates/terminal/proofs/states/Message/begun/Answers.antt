@@ -1,6 +1,5 @@
 -- The record's fields. Assumes nothing.
 use Rattle.terminal.specs.Rules.{begun_of}
-use borrow.Author.Rules.{rules}
 use Rattle.terminal.proofs.states.Message.begun.Goals as goal
 
 pub returns : goal.returns

@@ -1,6 +1,5 @@
 -- By whether it is the next data word. Assumes nothing.
 use Rattle.terminal.specs.Works.{data_meaning}
-use borrow.Author.Rules.{rules}
 use Rattle.terminal.proofs.states.Message.data_meaning.Goals as goal
 
 pub returns-then-awaits_data-is_next_data : goal.returns-then-awaits_data-is_next_data

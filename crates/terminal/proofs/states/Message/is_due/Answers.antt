@@ -2,7 +2,6 @@
 use native.Mathlib.Omega.{arith}
 use Rattle.terminal.specs.Messages.{is_due}
 use Rattle.terminal.proofs.Spans.{since_least}
-use borrow.Author.Rules.{rules}
 use Rattle.terminal.proofs.states.Message.is_due.Goals as goal
 
 pub returns : goal.returns

@@ -1,7 +1,6 @@
 -- The distance is above 205 where the sum is below the time. Assumes nothing.
 use Rattle.terminal.specs.Messages.{is_late}
 use Rattle.terminal.proofs.Spans.{since_more}
-use borrow.Author.Rules.{rules}
 use Rattle.terminal.proofs.states.Message.is_late.Goals as goal
 
 pub returns : goal.returns

@@ -1,6 +1,5 @@
 -- The tests of the record and its spacing. Assumes nothing.
 use Rattle.terminal.specs.Messages.{is_next_data}
-use borrow.Author.Rules.{rules}
 use Rattle.terminal.proofs.states.Message.is_next_data.Goals as goal
 
 pub returns : goal.returns

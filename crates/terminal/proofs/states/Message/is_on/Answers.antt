@@ -1,6 +1,5 @@
 -- The phase, and the bus. Assumes nothing.
 use Rattle.terminal.specs.Messages.{is_on}
-use borrow.Author.Rules.{rules}
 use Rattle.terminal.proofs.states.Message.is_on.Goals as goal
 
 pub returns : goal.returns

@@ -1,5 +1,4 @@
 -- By the one limit or the other. Assumes nothing.
-use borrow.Author.Rules.{rules}
 use Rattle.terminal.proofs.states.Message.is_over.Goals as goal
 
 pub returns : goal.returns

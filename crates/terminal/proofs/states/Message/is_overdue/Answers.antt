@@ -1,7 +1,6 @@
 -- The distance is above 750 where the sum is below the time. Assumes nothing.
 use Rattle.terminal.specs.Messages.{is_overdue}
 use Rattle.terminal.proofs.Spans.{since_more}
-use borrow.Author.Rules.{rules}
 use Rattle.terminal.proofs.states.Message.is_overdue.Goals as goal
 
 pub returns : goal.returns

@@ -1,6 +1,5 @@
 -- The tests of the record, its spacing and its fields. Assumes nothing.
 use Rattle.terminal.specs.Messages.{is_second}
-use borrow.Author.Rules.{rules}
 use Rattle.terminal.proofs.states.Message.is_second.Goals as goal
 
 pub returns : goal.returns

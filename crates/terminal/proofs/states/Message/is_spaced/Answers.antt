@@ -1,6 +1,5 @@
 -- Both tests are of the distance that `since` gives. Assumes nothing.
 use Rattle.words.specs.Words.{is_spaced}
-use borrow.Author.Rules.{rules}
 use Rattle.terminal.proofs.states.Message.is_spaced.Goals as goal
 
 pub returns : goal.returns

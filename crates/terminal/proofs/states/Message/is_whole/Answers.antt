@@ -1,6 +1,5 @@
 -- The phase, and the words so far. Assumes nothing.
 use Rattle.terminal.specs.Messages.{is_whole}
-use borrow.Author.Rules.{rules}
 use Rattle.terminal.proofs.states.Message.is_whole.Goals as goal
 
 pub returns : goal.returns

@@ -4,7 +4,6 @@ use Rattle.words.proofs.Truth.{and_both}
 use lib.Dec.{leb}
 use borrow.Author.Tests.{leb-true}
 use Rattle.terminal.specs.Works.{last_awaited}
-use borrow.Author.Rules.{rules}
 use Rattle.terminal.proofs.states.Message.last_awaited.Goals as goal
 
 pub overflow_sub-result : goal.overflow_sub-result

@@ -4,7 +4,6 @@ use Rattle.terminal.specs.Messages.{next_moment_of}
 use Rattle.terminal.specs.declared.states.Phase.TheVariants.{Idle, First, Pledged, Confirmed, Data}
 use Rattle.terminal.proofs.Wrapped.{moment_is}
 use Rattle.terminal.proofs.Moments.{at_phase_lem}
-use borrow.Author.Rules.{rules}
 use Rattle.terminal.proofs.states.Message.next_moment.Goals as goal
 
 pub returns-then-is_whole : goal.returns-then-is_whole

@@ -1,7 +1,6 @@
 -- By whether a data word is awaited. Assumes nothing.
 use mathlib.Core.Path.{sym, ◌∙◌}
 use Rattle.terminal.specs.Rules.{fault_in}
-use borrow.Author.Rules.{rules}
 use Rattle.terminal.proofs.states.Message.spacing_fault.Goals as goal
 
 pub returns-then-awaits_data : goal.returns-then-awaits_data

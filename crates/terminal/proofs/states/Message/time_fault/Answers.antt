@@ -5,7 +5,6 @@ use lib.Dec.{ltb}
 use Rattle.terminal.specs.Messages.{is_overdue}
 use Rattle.terminal.specs.Rules.{time_fault}
 use Rattle.terminal.proofs.Spans.{since_more_of}
-use borrow.Author.Rules.{rules}
 use Rattle.terminal.proofs.states.Message.time_fault.Goals as goal
 
 -- overdue when not yet late

@@ -1,5 +1,4 @@
 -- The word at its own place. Assumes nothing.
-use borrow.Author.Rules.{rules}
 use Rattle.terminal.proofs.states.Message.with_word.Goals as goal
 
 pub returns : goal.returns

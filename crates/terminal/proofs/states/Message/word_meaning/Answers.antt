@@ -3,7 +3,6 @@ use mathlib.Core.Path.{refl, sym, ◌∙◌}
 use Rattle.terminal.specs.Works.{word_meaning}
 use Rattle.terminal.specs.declared.states.Phase.TheVariants.{Idle, First, Pledged, Confirmed, Data}
 use Rattle.terminal.proofs.Meanings.{at_phase_lem}
-use borrow.Author.Rules.{rules}
 use Rattle.terminal.proofs.states.Message.word_meaning.Goals as goal
 
 pub returns-in-Idle : goal.returns-in-Idle

@@ -4,7 +4,6 @@ use Prim.Native.Nat.{◌*◌}
 use lib.Dec.{eqb}
 use Rattle.terminal.specs.Messages.{is_sending}
 use Rattle.terminal.proofs.Spans.{in_window}
-use borrow.Author.Rules.{rules}
 use Rattle.terminal.proofs.states.Sending.is_sending.Goals as goal
 
 pub returns : goal.returns

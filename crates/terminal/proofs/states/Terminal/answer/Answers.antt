@@ -3,7 +3,6 @@ use mathlib.Core.Path.{sym, ◌∙◌}
 use Rattle.words.proofs.Sums.{plus_fits}
 use Rattle.terminal.specs.Settling.{answer_of}
 use Rattle.terminal.proofs.Wrapped.{moment_is}
-use borrow.Author.Rules.{rules}
 use Rattle.terminal.proofs.states.Terminal.answer.Goals as goal
 
 pub returns-then-is_withheld : goal.returns-then-is_withheld

@@ -8,7 +8,6 @@ use Rattle.terminal.specs.declared.events.Told.{Told}
 use Rattle.terminal.proofs.Accepted.{event_tables}
 use Rattle.terminal.proofs.Happenings.{happens}
 use Rattle.terminal.proofs.Meanings.{heard_few, told_refused, told_time}
-use borrow.Author.Rules.{rules}
 use Rattle.terminal.proofs.states.Terminal.event.Goals as goal
 
 pub returns-then-refusal-ne0 : goal.returns-then-refusal-ne0

@@ -2,7 +2,6 @@
 use mathlib.Core.Path.{sym, ◌∙◌}
 use borrow.Author.Tests.{le-leb, lt-leb}
 use Rattle.terminal.specs.Events.{event_refusal}
-use borrow.Author.Rules.{rules}
 use Rattle.terminal.proofs.states.Terminal.event_refusal.Goals as goal
 
 pub returns-then-self-heard : goal.returns-then-self-heard

@@ -1,5 +1,4 @@
 -- Each part fresh. Assumes nothing.
-use borrow.Author.Rules.{rules}
 use Rattle.terminal.proofs.states.Terminal.fresh.Goals as goal
 
 pub returns : goal.returns

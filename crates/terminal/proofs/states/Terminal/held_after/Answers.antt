@@ -1,7 +1,6 @@
 -- By whether it is a legal mode command. Assumes nothing.
 use Rattle.terminal.specs.Effects.{held_after}
 use Rattle.terminal.proofs.Awaited.{awaited_effect}
-use borrow.Author.Rules.{rules}
 use Rattle.terminal.proofs.states.Terminal.held_after.Goals as goal
 
 pub returns-then-legal-is_mode : goal.returns-then-legal-is_mode

@@ -1,6 +1,5 @@
 -- The address, and the bus. Assumes nothing.
 use Rattle.terminal.specs.Settling.{is_withheld}
-use borrow.Author.Rules.{rules}
 use Rattle.terminal.proofs.states.Terminal.is_withheld.Goals as goal
 
 pub returns : goal.returns

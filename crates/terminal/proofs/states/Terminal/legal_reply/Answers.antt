@@ -1,7 +1,6 @@
 -- By the tests of the command. Assumes nothing.
 use mathlib.Core.Path.{sym, ◌∙◌}
 use Rattle.terminal.specs.Settling.{legal_reply}
-use borrow.Author.Rules.{rules}
 use Rattle.terminal.proofs.states.Terminal.legal_reply.Goals as goal
 
 pub returns-then-is_mode : goal.returns-then-is_mode

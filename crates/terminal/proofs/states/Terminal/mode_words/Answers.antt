@@ -1,7 +1,6 @@
 -- By the code. Assumes nothing.
 use borrow.Author.Tests.{eq-eqb, ne_eqb}
 use Rattle.terminal.specs.Settling.{mode_words}
-use borrow.Author.Rules.{rules}
 use Rattle.terminal.proofs.states.Terminal.mode_words.Goals as goal
 
 pub returns-then-code-eq-TRANSMIT_VECTOR_WORD : goal.returns-then-code-eq-TRANSMIT_VECTOR_WORD

@@ -1,5 +1,4 @@
 -- No answer, the same terminal. Assumes nothing.
-use borrow.Author.Rules.{rules}
 use Rattle.terminal.proofs.states.Terminal.refused.Goals as goal
 
 pub returns : goal.returns

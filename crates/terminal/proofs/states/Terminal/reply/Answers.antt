@@ -1,7 +1,6 @@
 -- By whether the command is legal. Assumes nothing.
 use mathlib.Core.Path.{sym, ◌∙◌}
 use Rattle.terminal.specs.Settling.{reply_of}
-use borrow.Author.Rules.{rules}
 use Rattle.terminal.proofs.states.Terminal.reply.Goals as goal
 
 pub returns-then-legal : goal.returns-then-legal

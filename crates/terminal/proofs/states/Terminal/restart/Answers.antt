@@ -1,6 +1,5 @@
 -- Each part fresh. Assumes nothing.
 use Rattle.terminal.proofs.Moments.{none_never}
-use borrow.Author.Rules.{rules}
 use Rattle.terminal.proofs.states.Terminal.restart.Goals as goal
 
 pub returns : goal.returns

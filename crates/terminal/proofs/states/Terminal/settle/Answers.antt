@@ -5,7 +5,6 @@ use Rattle.terminal.specs.Rules.{settled_of}
 use Rattle.terminal.specs.declared.answers.Reply.{Reply}
 use Rattle.terminal.proofs.Counts.{reply_most}
 use Rattle.terminal.proofs.Moments.{none_never}
-use borrow.Author.Rules.{rules}
 use Rattle.terminal.proofs.states.Terminal.settle.Goals as goal
 
 pub sending-sending-requires : goal.sending-sending-requires

@@ -1,7 +1,6 @@
 -- By whether it is exempt; else flag by flag. Assumes nothing.
 use mathlib.Core.Path.{sym, ◌∙◌}
 use Rattle.terminal.specs.Settling.{settled_status}
-use borrow.Author.Rules.{rules}
 use Rattle.terminal.proofs.states.Terminal.settled_status.Goals as goal
 
 pub returns-then-is_exempt : goal.returns-then-is_exempt

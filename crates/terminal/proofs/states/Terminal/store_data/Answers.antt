@@ -3,7 +3,6 @@ use mathlib.Core.Path.{sym, ◌∙◌}
 use Rattle.terminal.specs.Settling.{stored_of}
 use native.Mathlib.Omega.{arith}
 use Rattle.words.proofs.Counts.{words_most}
-use borrow.Author.Rules.{rules}
 use Rattle.terminal.proofs.states.Terminal.store_data.Goals as goal
 
 pub store-requires : goal.store-requires

@@ -1,6 +1,5 @@
 -- The tests of the command and of the host. Assumes nothing.
 use Rattle.terminal.specs.Settling.{stores_data}
-use borrow.Author.Rules.{rules}
 use Rattle.terminal.proofs.states.Terminal.stores_data.Goals as goal
 
 pub returns : goal.returns

@@ -1,6 +1,5 @@
 -- What the command notes, begins and cuts. Assumes nothing.
 use Rattle.terminal.specs.Rules.{rule4}
-use borrow.Author.Rules.{rules}
 use Rattle.terminal.proofs.states.Work.begun.Goals as goal
 
 pub returns : goal.returns

@@ -1,6 +1,5 @@
 -- The next moment of the message, in its two fields. Assumes nothing.
 use mathlib.Core.Path.{sym, ◌∙◌}
-use borrow.Author.Rules.{rules}
 use Rattle.terminal.proofs.states.Work.build.Goals as goal
 
 pub returns-in-At : goal.returns-in-At

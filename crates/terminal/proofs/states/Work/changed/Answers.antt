@@ -6,7 +6,6 @@ use Rattle.terminal.specs.Works.{changed_of}
 use Rattle.terminal.specs.declared.rules.Meaning.TheVariants.{Ignored, Begins, SecondCommand, Status, DataWord, Faulty, Nothing}
 use Rattle.terminal.proofs.Meanings.{at_meaning}
 use Rattle.terminal.specs.declared.states.Message.{Message}
-use borrow.Author.Rules.{rules}
 use Rattle.terminal.proofs.states.Work.changed.Goals as goal
 
 pub with_word-requires : goal.with_word-requires

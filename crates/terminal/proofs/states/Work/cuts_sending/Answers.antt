@@ -1,6 +1,5 @@
 -- The tests of the meaning and of the sending. Assumes nothing.
 use Rattle.terminal.specs.Works.{cut_by}
-use borrow.Author.Rules.{rules}
 use Rattle.terminal.proofs.states.Work.cuts_sending.Goals as goal
 
 pub returns : goal.returns

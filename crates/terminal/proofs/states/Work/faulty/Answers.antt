@@ -1,6 +1,5 @@
 -- The mark, the kind, and no message. Assumes nothing.
 use Rattle.terminal.specs.Rules.{faulty_of}
-use borrow.Author.Rules.{rules}
 use Rattle.terminal.proofs.states.Work.faulty.Goals as goal
 
 pub returns : goal.returns

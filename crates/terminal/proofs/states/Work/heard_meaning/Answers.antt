@@ -1,6 +1,5 @@
 -- By whether it is a time mark. Assumes nothing.
 use Rattle.terminal.specs.Works.{heard_meaning}
-use borrow.Author.Rules.{rules}
 use Rattle.terminal.proofs.states.Work.heard_meaning.Goals as goal
 
 pub returns-then-told : goal.returns-then-told

@@ -1,7 +1,6 @@
 -- In the order of the rules. Assumes nothing.
 use mathlib.Core.Path.{sym, ◌∙◌}
 use Rattle.terminal.specs.Works.{meaning_of}
-use borrow.Author.Rules.{rules}
 use Rattle.terminal.proofs.states.Work.meaning.Goals as goal
 
 pub returns-then-is_sending : goal.returns-then-is_sending

@@ -1,7 +1,6 @@
 -- By whether the time of the message is over. Assumes nothing.
 use mathlib.Core.Path.{sym, ◌∙◌}
 use Rattle.terminal.specs.Rules.{rule2}
-use borrow.Author.Rules.{rules}
 use Rattle.terminal.proofs.states.Work.rule2.Goals as goal
 
 pub returns-then-is_over : goal.returns-then-is_over
