@@ -1,7 +1,6 @@
 -- In the order of the flags. Assumes nothing.
 use mathlib.Core.Path.{sym, ◌∙◌}
 use Rattle.verdict.specs.Facts.{flag_fact}
-use borrow.Author.Rules.{rules}
 use Rattle.verdict.proofs.facts.flag_fact.Goals as goal
 
 pub returns-then-has : goal.returns-then-has

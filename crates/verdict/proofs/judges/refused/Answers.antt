@@ -1,5 +1,4 @@
 -- By what was read. Assumes nothing.
-use borrow.Author.Rules.{rules}
 use Rattle.verdict.proofs.judges.refused.Goals as goal
 
 pub returns-in-Record : goal.returns-in-Record

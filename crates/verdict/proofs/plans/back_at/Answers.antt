@@ -1,7 +1,6 @@
 -- By whether the command is broadcast. Assumes nothing.
 use mathlib.Core.Path.{sym, ◌∙◌}
 use Rattle.verdict.specs.Plans.{back_of}
-use borrow.Author.Rules.{rules}
 use Rattle.verdict.proofs.plans.back_at.Goals as goal
 
 pub returns-then-is_broadcast : goal.returns-then-is_broadcast

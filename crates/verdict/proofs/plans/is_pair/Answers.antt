@@ -1,6 +1,5 @@
 -- The tests of the fields. Assumes nothing.
 use Rattle.verdict.specs.Plans.{is_pair}
-use borrow.Author.Rules.{rules}
 use Rattle.verdict.proofs.plans.is_pair.Goals as goal
 
 pub returns : goal.returns

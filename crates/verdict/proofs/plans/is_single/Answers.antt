@@ -1,7 +1,6 @@
 -- By whether it is a mode command. Assumes nothing.
 use mathlib.Core.Path.{sym, ◌∙◌}
 use Rattle.verdict.specs.Plans.{is_single}
-use borrow.Author.Rules.{rules}
 use Rattle.verdict.proofs.plans.is_single.Goals as goal
 
 pub returns-then-is_mode : goal.returns-then-is_mode

@@ -1,7 +1,6 @@
 -- The status first, then as many data words as are sent. Assumes nothing.
 use mathlib.Core.Path.{sym}
 use Rattle.verdict.proofs.Places.{part_status, part_data, part_nothing}
-use borrow.Author.Rules.{rules}
 use Rattle.verdict.proofs.plans.part_at.Goals as goal
 
 pub returns-then-place-eq0 : goal.returns-then-place-eq0

@@ -1,7 +1,6 @@
 -- By whether it is a mode command, and by the T/R bit. Assumes nothing.
 use mathlib.Core.Path.{sym, ◌∙◌}
 use Rattle.verdict.specs.Plans.{sent_of}
-use borrow.Author.Rules.{rules}
 use Rattle.verdict.proofs.plans.sent.Goals as goal
 
 pub returns-then-is_mode : goal.returns-then-is_mode

@@ -1,7 +1,6 @@
 -- By what is expected, and by how long was listened. Assumes nothing.
 use borrow.Author.Tests.{le-leb, lt-leb, lt-ltb, le-ltb}
 use Rattle.verdict.specs.Facts.{end_of}
-use borrow.Author.Rules.{rules}
 use Rattle.verdict.proofs.plans.Expected.end.Goals as goal
 
 pub returns-then-listened : goal.returns-then-listened

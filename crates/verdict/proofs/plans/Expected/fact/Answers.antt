@@ -1,6 +1,5 @@
 -- By what is expected. Assumes nothing.
 use Rattle.verdict.specs.Facts.{fact_of}
-use borrow.Author.Rules.{rules}
 use Rattle.verdict.proofs.plans.Expected.fact.Goals as goal
 
 pub returns-in-Status : goal.returns-in-Status

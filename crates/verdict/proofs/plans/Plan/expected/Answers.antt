@@ -3,7 +3,6 @@ use mathlib.Core.Path.{sym}
 use borrow.Author.Tests.{eq-eqb, ne_eqb}
 use Rattle.verdict.specs.Plans.{expected_of}
 use Rattle.verdict.proofs.Places.{pair_first, pair_second}
-use borrow.Author.Rules.{rules}
 use Rattle.verdict.proofs.plans.Plan.expected.Goals as goal
 
 pub returns-then-self-eq1 : goal.returns-then-self-eq1

@@ -1,5 +1,4 @@
 -- What is expected there, asked. Assumes nothing.
-use borrow.Author.Rules.{rules}
 use Rattle.verdict.proofs.plans.Plan.fact_at.Goals as goal
 
 pub returns : goal.returns

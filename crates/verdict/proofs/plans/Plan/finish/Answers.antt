@@ -1,7 +1,6 @@
 -- A fact that is found stays. Assumes nothing.
 use borrow.Author.Tests.{eq-eqb, ne_eqb}
 use Rattle.verdict.specs.Verdicts.{finish_of}
-use borrow.Author.Rules.{rules}
 use Rattle.verdict.proofs.plans.Plan.finish.Goals as goal
 
 pub returns-then-found : goal.returns-then-found

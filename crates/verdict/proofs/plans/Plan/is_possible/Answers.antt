@@ -1,7 +1,6 @@
 -- By the number of commands. Assumes nothing.
 use borrow.Author.Tests.{eq-eqb, ne_eqb}
 use Rattle.verdict.specs.Plans.{is_possible}
-use borrow.Author.Rules.{rules}
 use Rattle.verdict.proofs.plans.Plan.is_possible.Goals as goal
 
 pub returns-then-self-eq1 : goal.returns-then-self-eq1

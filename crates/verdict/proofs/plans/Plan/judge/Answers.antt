@@ -4,7 +4,6 @@ use Prim.Native.Nat.{ℕ}
 use borrow.Author.Tests.{eq-eqb, ne_eqb}
 use Rattle.verdict.specs.Verdicts.{judged_of}
 use Rattle.verdict.specs.declared.judges.Judged.TheVariants as judged
-use borrow.Author.Rules.{rules}
 use Rattle.verdict.proofs.plans.Plan.judge.Goals as goal
 
 pub returns-then-own : goal.returns-then-own

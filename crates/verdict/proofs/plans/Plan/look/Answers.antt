@@ -1,7 +1,6 @@
 -- A data word is expected at the places of data words. Assumes nothing.
 use Rattle.verdict.specs.Facts.{fact_of}
 use Rattle.verdict.proofs.Places.{first_data}
-use borrow.Author.Rules.{rules}
 use Rattle.verdict.proofs.plans.Plan.look.Goals as goal
 
 pub returns-then-place-sent : goal.returns-then-place-sent

@@ -2,7 +2,6 @@
 use mathlib.Core.Path.{sym, ◌∙◌}
 use borrow.Author.Tests.{eq-eqb, ne_eqb}
 use Rattle.verdict.specs.Verdicts.{sent_first}
-use borrow.Author.Rules.{rules}
 use Rattle.verdict.proofs.plans.Plan.sent_first.Goals as goal
 
 pub returns-then-self-ne1 : goal.returns-then-self-ne1
