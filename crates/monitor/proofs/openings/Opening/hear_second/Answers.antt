@@ -1,0 +1,8 @@
+-- Field by field. Assumes nothing.
+use Rattle.monitor.specs.Machine.{heard_second}
+use Rattle.std.proofs.Common.{rules}
+use Rattle.monitor.proofs.openings.Opening.hear_second.Goals as goal
+
+pub returns : goal.returns
+unfolding heard_second
+returns c = record { opening = rw c.with_second-next.ensures.heads }
