@@ -1,5 +1,5 @@
 -- By the test. Assumes nothing.
-use Rattle.std.proofs.Common.{sym, ◌∙◌, rules}
+use Rattle.std.proofs.Common.{sym, ◌∙◌}
 use Rattle.monitor.proofs.entries.data_words.Goals as goal
 
 pub returns-then-is_data_word : goal.returns-then-is_data_word

@@ -1,6 +1,5 @@
 -- By the test of validity. Assumes nothing.
 use Rattle.monitor.specs.Entries.{is_command}
-use Rattle.std.proofs.Common.{rules}
 use Rattle.monitor.proofs.entries.is_command.Goals as goal
 
 pub returns : goal.returns

@@ -1,6 +1,5 @@
 -- By the test of validity. Assumes nothing.
 use Rattle.monitor.specs.Entries.{is_data_word}
-use Rattle.std.proofs.Common.{rules}
 use Rattle.monitor.proofs.entries.is_data_word.Goals as goal
 
 pub returns : goal.returns

@@ -1,5 +1,5 @@
 -- By whether the words overlap. Assumes nothing.
-use Rattle.std.proofs.Common.{rules, le-leb}
+use Rattle.std.proofs.Common.{le-leb}
 use borrow.Author.Tests.{lt-leb}
 use Rattle.monitor.specs.Entries.{gap_from}
 use Rattle.monitor.proofs.entries.signed_gap.Goals as goal

@@ -1,5 +1,5 @@
 -- By what the first side is ready for. Assumes nothing.
-use Rattle.std.proofs.Common.{sym, ◌∙◌, rules}
+use Rattle.std.proofs.Common.{sym, ◌∙◌}
 use Rattle.monitor.proofs.sides.choose.Goals as goal
 
 pub returns-in-Feed : goal.returns-in-Feed

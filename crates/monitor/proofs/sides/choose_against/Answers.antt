@@ -1,5 +1,5 @@
 -- By what the second side is ready for, and the lower place. Assumes nothing.
-use Rattle.std.proofs.Common.{rules, le-ltb, lt-ltb}
+use Rattle.std.proofs.Common.{le-ltb, lt-ltb}
 use Rattle.monitor.specs.Machine.{choice_against}
 use Rattle.monitor.proofs.sides.choose_against.Goals as goal
 

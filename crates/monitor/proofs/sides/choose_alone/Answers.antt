@@ -1,6 +1,5 @@
 -- By what the second side is ready for. Assumes nothing.
 use Rattle.monitor.specs.Machine.{choice_alone}
-use Rattle.std.proofs.Common.{rules}
 use Rattle.monitor.proofs.sides.choose_alone.Goals as goal
 
 pub returns-in-Feed : goal.returns-in-Feed

@@ -1,5 +1,5 @@
 -- By whether it is a command. Assumes nothing.
-use Rattle.std.proofs.Common.{sym, ◌∙◌, rules}
+use Rattle.std.proofs.Common.{sym, ◌∙◌}
 use Rattle.monitor.specs.Machine.{standing_from}
 use Rattle.monitor.proofs.walks.stand.Goals as goal
 

@@ -1,6 +1,5 @@
 -- By how many commands there are. Assumes nothing.
 use Rattle.monitor.specs.Entries.{is_for}
-use Rattle.std.proofs.Common.{rules}
 use Rattle.monitor.proofs.entries.Commands.is_for.Goals as goal
 
 pub returns-in-One : goal.returns-in-One

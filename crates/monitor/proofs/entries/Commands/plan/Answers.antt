@@ -1,5 +1,4 @@
 -- By how many commands there are. Assumes nothing.
-use Rattle.std.proofs.Common.{rules}
 use Rattle.monitor.proofs.entries.Commands.plan.Goals as goal
 
 pub returns-in-One : goal.returns-in-One

@@ -1,6 +1,5 @@
 -- By how many commands there are. Assumes nothing.
 use Rattle.monitor.specs.Machine.{with_second}
-use Rattle.std.proofs.Common.{rules}
 use Rattle.monitor.proofs.entries.Commands.with.Goals as goal
 
 pub returns-in-One : goal.returns-in-One

@@ -1,6 +1,5 @@
 -- By how many statuses there are. Assumes nothing.
 use Rattle.monitor.specs.Entries.{is_from}
-use Rattle.std.proofs.Common.{rules}
 use Rattle.monitor.proofs.entries.Statuses.is_from.Goals as goal
 
 pub returns-in-None : goal.returns-in-None

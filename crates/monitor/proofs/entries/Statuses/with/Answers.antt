@@ -1,6 +1,5 @@
 -- By how many statuses there are. Assumes nothing.
 use Rattle.monitor.specs.Machine.{with_status}
-use Rattle.std.proofs.Common.{rules}
 use Rattle.monitor.proofs.entries.Statuses.with.Goals as goal
 
 pub returns-in-None : goal.returns-in-None

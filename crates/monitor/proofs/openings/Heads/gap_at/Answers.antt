@@ -1,6 +1,5 @@
 -- By whether a status came before. Assumes nothing.
 use Rattle.monitor.specs.Machine.{gap_after}
-use Rattle.std.proofs.Common.{rules}
 use Rattle.monitor.proofs.openings.Heads.gap_at.Goals as goal
 
 pub returns-in-None : goal.returns-in-None

@@ -1,6 +1,5 @@
 -- By how many commands there are. Assumes nothing.
 use Rattle.monitor.specs.Machine.{awaits_second}
-use Rattle.std.proofs.Common.{rules}
 use Rattle.monitor.proofs.openings.Opening.awaits_second.Goals as goal
 
 pub returns-in-One : goal.returns-in-One

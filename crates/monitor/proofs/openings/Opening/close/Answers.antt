@@ -1,6 +1,5 @@
 -- Field by field. Assumes nothing.
 use Rattle.monitor.specs.Machine.{closed_at}
-use Rattle.std.proofs.Common.{rules}
 use Rattle.monitor.proofs.openings.Opening.close.Goals as goal
 
 pub returns : goal.returns

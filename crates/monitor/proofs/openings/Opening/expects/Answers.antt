@@ -1,6 +1,5 @@
 -- The tests of the address. Assumes nothing.
 use Rattle.monitor.specs.Machine.{expects_from}
-use Rattle.std.proofs.Common.{rules}
 use Rattle.monitor.proofs.openings.Opening.expects.Goals as goal
 
 pub returns : goal.returns

@@ -1,6 +1,5 @@
 -- Field by field. Assumes nothing.
 use Rattle.monitor.specs.Machine.{heard_second}
-use Rattle.std.proofs.Common.{rules}
 use Rattle.monitor.proofs.openings.Opening.hear_second.Goals as goal
 
 pub returns : goal.returns

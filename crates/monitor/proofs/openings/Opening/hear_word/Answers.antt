@@ -1,5 +1,5 @@
 -- By whether an own word is to come. Assumes nothing.
-use Rattle.std.proofs.Common.{rules, eq-eqb, ne_eqb}
+use Rattle.std.proofs.Common.{eq-eqb, ne_eqb}
 use Rattle.monitor.specs.Machine.{heard_word}
 use Rattle.monitor.proofs.openings.Opening.hear_word.Goals as goal
 

@@ -1,6 +1,5 @@
 -- By what the record is to the message. Assumes nothing.
 use Rattle.monitor.specs.Machine.{joined_by}
-use Rattle.std.proofs.Common.{rules}
 use Rattle.monitor.proofs.openings.Opening.join.Goals as goal
 
 pub returns-in-Far : goal.returns-in-Far

@@ -1,6 +1,5 @@
 -- Field by field. Assumes nothing.
 use Rattle.monitor.specs.Machine.{opened_by}
-use Rattle.std.proofs.Common.{rules}
 use Rattle.monitor.proofs.openings.Opening.start.Goals as goal
 
 pub returns : goal.returns

@@ -1,6 +1,6 @@
 -- The loop's invariant: what is left at the place comes to what the whole gives. Assumes nothing.
-use Rattle.std.proofs.Common.{◌-◌, length, rules}
-use Rattle.monitor.proofs.Feeding.{Feeding, feeding_start, feeding_short, feeding_over, feeding_next}
+use Rattle.std.proofs.Common.{◌-◌, length}
+use Rattle.monitor.proofs.Feeding.{Feeding}
 use Rattle.monitor.proofs.walks.Side.feed.Given as goal
 
 abbrev pub invariant-loop-at : goal.invariant-loop-at

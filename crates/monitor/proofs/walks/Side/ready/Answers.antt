@@ -1,6 +1,5 @@
 -- By what waits and how far it is. Assumes nothing.
 use Rattle.monitor.specs.Machine.{ready_of}
-use Rattle.std.proofs.Common.{rules}
 use Rattle.monitor.proofs.walks.Side.ready.Goals as goal
 
 pub returns-in-Entry : goal.returns-in-Entry

@@ -1,6 +1,5 @@
 -- Field by field. Assumes nothing.
 use Rattle.monitor.specs.Machine.{side_start}
-use Rattle.std.proofs.Common.{rules}
 use Rattle.monitor.proofs.walks.Side.start.Goals as goal
 
 pub returns : goal.returns

@@ -1,5 +1,5 @@
 -- By what it is ready for. Assumes nothing.
-use Rattle.std.proofs.Common.{sym, ◌∙◌, rules}
+use Rattle.std.proofs.Common.{sym, ◌∙◌}
 use Rattle.monitor.specs.Machine.{wants_more}
 use Rattle.monitor.proofs.walks.Side.wants_more.Goals as goal
 

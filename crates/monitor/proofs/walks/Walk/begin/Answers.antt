@@ -1,6 +1,5 @@
 -- Field by field. Assumes nothing.
 use Rattle.monitor.specs.Machine.{begun_with}
-use Rattle.std.proofs.Common.{rules}
 use Rattle.monitor.proofs.walks.Walk.begin.Goals as goal
 
 pub returns : goal.returns

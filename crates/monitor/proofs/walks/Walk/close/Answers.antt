@@ -1,6 +1,5 @@
 -- By what stands open. Assumes nothing.
 use Rattle.monitor.specs.Machine.{found_at}
-use Rattle.std.proofs.Common.{rules}
 use Rattle.monitor.proofs.walks.Walk.close.Goals as goal
 
 pub returns-in-Nothing : goal.returns-in-Nothing

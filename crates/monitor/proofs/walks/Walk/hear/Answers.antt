@@ -1,7 +1,6 @@
 -- By what stands open. Assumes nothing.
 use Rattle.monitor.specs.declared.walks.Standing.TheVariants as standing
 use Rattle.monitor.proofs.Cases.{heard_by_lem}
-use Rattle.std.proofs.Common.{rules}
 use Rattle.monitor.proofs.walks.Walk.hear.Goals as goal
 
 pub returns-in-Nothing : goal.returns-in-Nothing

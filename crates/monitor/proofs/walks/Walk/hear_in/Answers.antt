@@ -1,5 +1,5 @@
 -- By what the record is to the message. Assumes nothing.
-use Rattle.std.proofs.Common.{sym, ◌∙◌, rules}
+use Rattle.std.proofs.Common.{sym, ◌∙◌}
 use Rattle.monitor.specs.Machine.{heard_message}
 use Rattle.monitor.proofs.walks.Walk.hear_in.Goals as goal
 

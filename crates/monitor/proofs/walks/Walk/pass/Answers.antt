@@ -1,6 +1,5 @@
 -- Field by field. Assumes nothing.
 use Rattle.monitor.specs.Machine.{passed_with}
-use Rattle.std.proofs.Common.{rules}
 use Rattle.monitor.proofs.walks.Walk.pass.Goals as goal
 
 pub returns : goal.returns

@@ -1,5 +1,5 @@
 -- By what is read. Assumes nothing.
-use Rattle.std.proofs.Common.{sym, ◌∙◌, rules}
+use Rattle.std.proofs.Common.{sym, ◌∙◌}
 use Rattle.monitor.specs.Machine.{read_by}
 use Rattle.monitor.proofs.walks.Walk.read.Goals as goal
 

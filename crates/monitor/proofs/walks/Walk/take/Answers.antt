@@ -1,5 +1,5 @@
 -- By the time and the bus. Assumes nothing.
-use Rattle.std.proofs.Common.{rules, le-ltb, lt-ltb, eq-eqb, ne_eqb}
+use Rattle.std.proofs.Common.{le-ltb, lt-ltb, eq-eqb, ne_eqb}
 use Rattle.monitor.specs.Machine.{taken_by}
 use Rattle.monitor.proofs.walks.Walk.take.Goals as goal
 
