@@ -1,5 +1,4 @@
 -- The answer of the wrapped test, as a number. Assumes nothing.
-use borrow.Author.Rules.{rules}
 use Rattle.buscard.proofs.bus_word_spaced.Goals as goal
 
 pub returns : goal.returns
