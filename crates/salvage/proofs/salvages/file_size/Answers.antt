@@ -1,5 +1,5 @@
 -- One law for each way out. Assumes nothing.
-use Rattle.std.proofs.Common.{refl, rules}
+use Rattle.std.proofs.Common.{refl}
 use Rattle.salvage.specs.Machine.{size_of}
 use Rattle.salvage.specs.declared.salvages.First.TheVariants.{Missing, Kept, Changed}
 use Rattle.salvage.proofs.Cases.{size_by}

@@ -1,6 +1,6 @@
 -- The loop's invariant: what is left at the place, with the bytes so far, is what the whole gives. Assumes nothing.
-use Rattle.std.proofs.Common.{◌-◌, length, rules}
-use Rattle.salvage.proofs.Loops.{Keeping, keeping_start, keeping_stop, keeping_next, keeping_short}
+use Rattle.std.proofs.Common.{rules}
+use Rattle.salvage.proofs.Loops.{keeping_start, keeping_stop, keeping_next, keeping_short}
 use Rattle.salvage.proofs.stretches.keep_stretch.Goals as goal
 
 pub loop-at-init : goal.loop-at-init

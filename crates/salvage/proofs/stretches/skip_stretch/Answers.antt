@@ -1,6 +1,6 @@
 -- The loop's invariant: what is left at the place, with the bytes so far, is what the whole gives. Assumes nothing.
-use Rattle.std.proofs.Common.{◌-◌, length, arith, rules}
-use Rattle.salvage.proofs.Loops.{Skipping, skipping_start, skipping_stop, skipping_next, skipping_short, stray_fits}
+use Rattle.std.proofs.Common.{arith, rules}
+use Rattle.salvage.proofs.Loops.{skipping_start, skipping_stop, skipping_next, skipping_short, stray_fits}
 use Rattle.salvage.proofs.stretches.skip_stretch.Goals as goal
 
 pub loop-at-init : goal.loop-at-init

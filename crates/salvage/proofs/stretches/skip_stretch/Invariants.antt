@@ -1,6 +1,6 @@
 -- The loop's invariant: what is left at the place, with the bytes so far, is what the whole gives. Assumes nothing.
-use Rattle.std.proofs.Common.{◌-◌, length, arith, rules}
-use Rattle.salvage.proofs.Loops.{Skipping, skipping_start, skipping_stop, skipping_next, skipping_short, stray_fits}
+use Rattle.std.proofs.Common.{◌-◌, length}
+use Rattle.salvage.proofs.Loops.{Skipping}
 use Rattle.salvage.proofs.stretches.skip_stretch.Given as goal
 
 abbrev pub invariant-loop-at : goal.invariant-loop-at

@@ -1,5 +1,4 @@
 -- By what was kept last. Assumes nothing.
-use Rattle.std.proofs.Common.{rules}
 use Rattle.salvage.proofs.choices.Last.allows.Goals as goal
 
 pub returns-in-At : goal.returns-in-At

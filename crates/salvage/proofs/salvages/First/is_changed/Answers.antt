@@ -1,5 +1,5 @@
 -- By which it is. Assumes nothing.
-use Rattle.std.proofs.Common.{sym, ap, rules}
+use Rattle.std.proofs.Common.{sym, ap}
 use Rattle.salvage.specs.Machine.{is_changed}
 use Rattle.salvage.proofs.salvages.First.is_changed.Goals as goal
 

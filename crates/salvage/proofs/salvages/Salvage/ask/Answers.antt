@@ -8,3 +8,10 @@ slice_bounds-skip_stretch-start c = search (kept_inside, rules)
 
 pub returns : goal.returns
 returns c = record { progress = search (asked, rules) }
+
+pub slice_bounds-skip_stretch-count : goal.slice_bounds-skip_stretch-count
+slice_bounds-skip_stretch-count c = search (kept_inside, rules)
+
+pub overflow_add-behind : goal.overflow_add-behind
+overflow_add-behind c =
+    omega (arith, in_room c.args.self c.args.room.now c.bytes-waiting.result.now c.bytes-waiting.ensures.bytes c.keep_stretch-stretch.result c.keep_stretch-stretch.ensures.stretch c.skip_stretch-skipped.result c.skip_stretch-skipped.ensures.skipped)

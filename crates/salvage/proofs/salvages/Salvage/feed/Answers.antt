@@ -1,7 +1,6 @@
 -- One law for each way out, for the answer and for the room. Assumes nothing.
 use Rattle.salvage.specs.declared.salvages.First.TheVariants.{Missing, Kept, Changed}
 use Rattle.salvage.proofs.Cases.{fed_by_lem, room_by}
-use Rattle.std.proofs.Common.{rules}
 use Rattle.salvage.proofs.salvages.Salvage.feed.Goals as goal
 
 pub returns-in-Missing : goal.returns-in-Missing

@@ -4,4 +4,4 @@ use Rattle.std.proofs.Common.{rules}
 use Rattle.salvage.proofs.salvages.Salvage.gather.Goals as goal
 
 pub returns : goal.returns
-returns c = record { fed = search (gathered, rules); room = search (gathered, rules) }
+returns c = record { fed = search (gathered, rules); room = search rules }

@@ -1,6 +1,5 @@
 -- The count of the bytes that wait. Assumes nothing.
 use Rattle.salvage.specs.Machine.{is_settled_of}
-use Rattle.std.proofs.Common.{rules}
 use Rattle.salvage.proofs.salvages.Salvage.is_settled.Goals as goal
 
 pub returns : goal.returns

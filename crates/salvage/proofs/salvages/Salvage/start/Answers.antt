@@ -1,5 +1,4 @@
 -- Its window is the empty one. Assumes nothing.
-use Rattle.std.proofs.Common.{rules}
 use Rattle.salvage.proofs.salvages.Salvage.start.Goals as goal
 
 pub returns : goal.returns

@@ -1,5 +1,4 @@
 -- Congruence with the two sums. Assumes nothing.
-use Rattle.std.proofs.Common.{rules}
 use Rattle.salvage.proofs.salvages.Settled.skip.Goals as goal
 
 pub returns : goal.returns
