@@ -75,7 +75,7 @@ module _ (P : WordRecord → Type 0) (holds : (r : WordRecord) → in_range last
   each_with before bytes (read.Record r) e f all = go (ltb r.time.0 before)
     where
       range : in_range last_bus r ≡ true
-      range = let g = read_good last_bus bytes r e in ap (in_range last_bus) (sym g.same) ∙ g.in-range
+      range = let g = read_good last_bus bytes r e in ap (in_range last_bus) (sym g.same) ∙ g.ranged
 
       go : (b : Bool) → Each P (cond b (stops refused_out_of_order) (goes_on r (f r.time.0))).taken
       go true = tt

@@ -74,7 +74,7 @@ end_late bus (r ∷ rs) t m l written =
 
 end_clock : (rs : List WordRecord) (m : Moment) → m.0 < 2 ^ 48 → Written m.0 rs → (end_time m rs).0 < 2 ^ 48
 end_clock [] m l written = l
-end_clock (r ∷ rs) m l written = end_clock rs r.time (in_range_time last_bus r written.0.in-range) written.2
+end_clock (r ∷ rs) m l written = end_clock rs r.time (in_range_time last_bus r written.0.ranged) written.2
 
 -- ---- so are those of a group, and Q is not earlier
 
@@ -91,8 +91,8 @@ closes_late bus first rest r fits l = go (is_far first rest r) refl
     go : (b : Bool) → is_far first rest r ≡ b
         → (last_after first.time.0 rest ≤ (cond b (record { 0 = (last_in first rest).time.0 + 320 }) r.time).0)
         × ((cond b (record { 0 = (last_in first rest).time.0 + 320 }) r.time).0 < 2 ^ 48)
-    go true h = (omega (arith, last_time first rest), omega (arith, far_later first rest r h, in_range_time last_bus r fits.in-range))
-    go false h = (l, in_range_time last_bus r fits.in-range)
+    go true h = (omega (arith, last_time first rest), omega (arith, far_later first rest r h, in_range_time last_bus r fits.ranged))
+    go false h = (l, in_range_time last_bus r fits.ranged)
 
 sound_from : (bus : ℕ) (ps : List Placed) (end : Moment) (place : ℕ) (first : WordRecord) (rest : List WordRecord)
     → Chain bus 0 (first ∷ (rest ++ heards ps)) → last_after first.time.0 (rest ++ heards ps) ≤ end.0 → end.0 < 2 ^ 48
@@ -245,7 +245,7 @@ module _ (bus : ℕ) (g : Group) (sound : Sound bus g) where
       let all = all_later alone in
       let order = strict_last bus returned plan.last.0 all in
       taken_given plan (forms_of returned) returned
-      (plan_accepted plan possible (omega (arith, bus_same, sound.chain.1, in_range_bus last_bus first sound.chain.0.in-range)) (omega (arith, order, last_same, sound.late, until_same))
+      (plan_accepted plan possible (omega (arith, bus_same, sound.chain.1, in_range_bus last_bus first sound.chain.0.ranged)) (omega (arith, order, last_same, sound.late, until_same))
       (omega (arith, until_same, sound.clock)))
       (returned_all returned (length (forms_of returned)) plan bus plan.last.0 (omega arith) bus_same all (omega (arith, last_same, sound.late, until_same)))
 
