@@ -1,7 +1,6 @@
 -- By whether it is a mode command. Assumes nothing.
 use mathlib.Core.Path.{sym, ◌∙◌}
 use Rattle.schedule.specs.Messages.{data_of}
-use borrow.Author.Rules.{rules}
 use Rattle.schedule.proofs.messages.data_words.Goals as goal
 
 pub returns-then-is_mode : goal.returns-then-is_mode

@@ -3,7 +3,6 @@ use mathlib.Core.Path.{refl, sym, ◌∙◌}
 use native.Mathlib.Omega.{arith}
 use Rattle.schedule.specs.Messages.{pair_load}
 use Rattle.schedule.proofs.Bounds.{data_most}
-use borrow.Author.Rules.{rules}
 use Rattle.schedule.proofs.messages.pair_load.Goals as goal
 
 pub overflow_add-result : goal.overflow_add-result
@@ -28,3 +27,6 @@ overflow_mul-result-2 c = omega (arith, data_most c.args.command.0, c.data_words
 pub returns : goal.returns
 unfolding pair_load
 returns c = record { ticks = rw (sym c.is_broadcast.ensures.answer ∙ c.if-is_broadcast.false, c.data_words-words.ensures.count) refl }
+
+pub overflow_add-result-then-is_broadcast : goal.overflow_add-result-then-is_broadcast
+overflow_add-result-then-is_broadcast c = omega (arith, data_most c.args.command.0, c.data_words-words.ensures.count)

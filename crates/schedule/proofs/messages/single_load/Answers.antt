@@ -3,7 +3,6 @@ use mathlib.Core.Path.{refl, sym, ◌∙◌}
 use native.Mathlib.Omega.{arith}
 use Rattle.schedule.specs.Messages.{single_load}
 use Rattle.schedule.proofs.Bounds.{data_most}
-use borrow.Author.Rules.{rules}
 use Rattle.schedule.proofs.messages.single_load.Goals as goal
 
 pub overflow_add-result : goal.overflow_add-result

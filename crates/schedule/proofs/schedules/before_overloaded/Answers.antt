@@ -1,16 +1,12 @@
 -- The loop's invariant: the frame, and what is before the first overloaded one from there on, make the whole. Assumes nothing.
 use mathlib.Core.Path.{◌≡◌, sym, ◌∙◌}
-use Prim.Native.Nat.{◌+◌, ◌-◌, ◌≤◌, ◌<◌}
+use Prim.Native.Nat.{◌<◌}
 use native.Mathlib.Omega.{arith}
-use lib.ListN.{length, drop}
-use borrow.Author.Rules.{rules}
-use borrow.Author.Tests.{not-true, not-false}
-use Rattle.schedule.specs.Frames.{before_overloaded}
 use Rattle.schedule.proofs.Walks.{overloaded_on, overloaded_here, overloaded_none}
 use Rattle.schedule.proofs.schedules.before_overloaded.Goals as goal
 
 pub loop-frame-init : goal.loop-frame-init
-loop-frame-init c = (omega arith, c.requires.0, c.requires.1, omega arith)
+loop-frame-init c = (omega arith, c.requires.loads_len, c.requires.capacities_len, omega arith)
 
 pub bounds-loads-frame : goal.bounds-loads-frame
 bounds-loads-frame c = let inv = c.loop-frame.invariant in omega arith
@@ -24,7 +20,7 @@ returns-then-not-is_within c =
       count = let l = c.loop-frame in
           let a = c.args in
           let inside : l.frame < 64 = c.loop-frame-test.true in
-          let above = sym c.is_within.ensures.answer ∙ not-true _ c.if-not-is_within.true in
+          let above = sym c.is_within.ensures.answer ∙ c.if-not-is_within.true in
           overloaded_here a.loads.now a.capacities.now l.frame (omega (arith, l.invariant)) (omega (arith, l.invariant)) _ l.invariant.3 above;
     }
 
@@ -39,7 +35,7 @@ loop-frame-preserved c =
     let l = c.loop-frame in
     let a = c.args in
     let inside : l.frame < 64 = c.loop-frame-test.true in
-    let fits = sym c.is_within.ensures.answer ∙ not-false _ c.if-not-is_within.false in
+    let fits = sym c.is_within.ensures.answer ∙ c.if-not-is_within.false in
     (omega arith, l.invariant.1, l.invariant.2, overloaded_on a.loads.now a.capacities.now l.frame (omega (arith, l.invariant)) (omega (arith, l.invariant)) _ l.invariant.3 fits)
 
 pub returns : goal.returns

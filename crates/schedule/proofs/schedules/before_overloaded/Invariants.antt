@@ -1,12 +1,8 @@
 -- The loop's invariant: the frame, and what is before the first overloaded one from there on, make the whole. Assumes nothing.
-use mathlib.Core.Path.{◌≡◌, sym, ◌∙◌}
-use Prim.Native.Nat.{◌+◌, ◌-◌, ◌≤◌, ◌<◌}
-use native.Mathlib.Omega.{arith}
+use mathlib.Core.Path.{◌≡◌}
+use Prim.Native.Nat.{◌+◌, ◌-◌, ◌≤◌}
 use lib.ListN.{length, drop}
-use borrow.Author.Rules.{rules}
-use borrow.Author.Tests.{not-true, not-false}
 use Rattle.schedule.specs.Frames.{before_overloaded}
-use Rattle.schedule.proofs.Walks.{overloaded_on, overloaded_here, overloaded_none}
 use Rattle.schedule.proofs.schedules.before_overloaded.Given as goal
 
 abbrev pub invariant-loop-frame : goal.invariant-loop-frame

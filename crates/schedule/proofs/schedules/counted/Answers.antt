@@ -2,7 +2,6 @@
 use mathlib.Core.Path.{refl}
 use borrow.Author.Tests.{le-leb, lt-leb}
 use Rattle.schedule.specs.Messages.{count_after}
-use borrow.Author.Rules.{rules}
 use Rattle.schedule.proofs.schedules.counted.Goals as goal
 
 pub returns-then-count-le-MESSAGES_MOST : goal.returns-then-count-le-MESSAGES_MOST

@@ -1,7 +1,6 @@
 -- By whether it comes in the frame. Assumes nothing.
 use mathlib.Core.Path.{refl, sym, ◌∙◌}
 use Rattle.schedule.specs.Frames.{part_in}
-use borrow.Author.Rules.{rules}
 use Rattle.schedule.proofs.schedules.part.Goals as goal
 
 pub returns-then-comes_in : goal.returns-then-comes_in

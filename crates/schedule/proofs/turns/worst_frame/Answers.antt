@@ -1,7 +1,5 @@
 -- Safe, and it ends: the frames are 64. Assumes nothing.
-use borrow.Author.Rules.{rules}
 use native.Mathlib.Omega.{arith}
-use Prim.Native.Nat.{◌-◌}
 use Rattle.schedule.proofs.turns.worst_frame.Goals as goal
 
 pub loop-frame-init : goal.loop-frame-init

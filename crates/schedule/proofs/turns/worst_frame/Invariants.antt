@@ -1,6 +1,4 @@
 -- Safe, and it ends: the frames are 64. Assumes nothing.
-use borrow.Author.Rules.{rules}
-use native.Mathlib.Omega.{arith}
 use Prim.Native.Nat.{◌-◌}
 use Rattle.schedule.proofs.turns.worst_frame.Given as goal
 

@@ -1,6 +1,4 @@
 -- Safe, and it ends: the first frames are at most 64. Assumes nothing.
-use borrow.Author.Rules.{rules}
-use native.Mathlib.Omega.{arith}
 use Prim.Native.Nat.{◌-◌, ◌≤◌}
 use Rattle.schedule.proofs.messages.Message.best_first.Given as goal
 

@@ -5,10 +5,11 @@ use native.Mathlib.Nat.{mod-zero}
 use lib.Dec.{eqb}
 use borrow.Author.Tests.{lt-leb, le-leb}
 use Rattle.schedule.specs.Frames.{comes_in}
-use borrow.Author.Rules.{rules}
 use Rattle.schedule.proofs.messages.Message.comes_in.Goals as goal
 
-returns-2 c = rw (le-leb _ _ c.before.before.if1.false) (ap (λ (x : ℕ). eqb x 0) (sym (mod-zero _) ∙ ap (◌%◌ _) (sym c.if2.true)))
+pub returns-then-self-eq0 : goal.returns-then-self-eq0
+unfolding comes_in
+returns-then-self-eq0 c = record { answer = rw (le-leb _ _ c.if-frame-first.false) (ap (λ (x : ℕ). eqb x 0) (sym (mod-zero _) ∙ ap (◌%◌ _) (sym c.if-self-eq0.true))) }
 
 pub returns-then-frame-first : goal.returns-then-frame-first
 unfolding comes_in

@@ -1,6 +1,5 @@
 -- Both tests. Assumes nothing.
 use Rattle.schedule.specs.Messages.{is_fit}
-use borrow.Author.Rules.{rules}
 use Rattle.schedule.proofs.messages.Message.is_fit.Goals as goal
 
 pub returns : goal.returns

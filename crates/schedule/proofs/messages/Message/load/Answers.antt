@@ -4,7 +4,6 @@ use native.Mathlib.Omega.{arith}
 use borrow.Author.Tests.{eq-eqb, ne_eqb}
 use Rattle.schedule.specs.Messages.{load_of}
 use Rattle.schedule.proofs.Bounds.{single_most, pair_most}
-use borrow.Author.Rules.{rules}
 use Rattle.schedule.proofs.messages.Message.load.Goals as goal
 
 pub overflow_add-result : goal.overflow_add-result

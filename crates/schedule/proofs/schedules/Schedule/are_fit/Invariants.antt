@@ -1,12 +1,8 @@
 -- The loop's invariant: from the place on all are fit exactly if all are. Assumes nothing.
-use mathlib.Core.Path.{◌≡◌, refl, sym, ◌∙◌}
-use Prim.Native.Nat.{◌-◌, ◌≤◌, ◌<◌}
-use native.Mathlib.Omega.{arith}
+use mathlib.Core.Path.{◌≡◌}
+use Prim.Native.Nat.{◌-◌, ◌≤◌}
 use lib.ListN.{length, drop}
-use borrow.Author.Rules.{rules}
-use borrow.Author.Tests.{not-true, not-false}
 use Rattle.schedule.specs.Messages.{messages_in, are_fit}
-use Rattle.schedule.proofs.Walks.{fit_on, fit_no_more, fit_all}
 use Rattle.schedule.proofs.schedules.Schedule.are_fit.Given as goal
 
 abbrev pub invariant-loop-i : goal.invariant-loop-i

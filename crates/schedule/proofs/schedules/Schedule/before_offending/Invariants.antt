@@ -1,13 +1,9 @@
 -- The loop's invariant: the place, and what is before the first that offends from there on, make the whole. Assumes nothing.
-use mathlib.Core.Path.{◌≡◌, sym, ◌∙◌}
-use Prim.Native.Nat.{◌+◌, ◌-◌, ◌≤◌, ◌<◌}
-use native.Mathlib.Omega.{arith}
+use mathlib.Core.Path.{◌≡◌}
+use Prim.Native.Nat.{◌+◌, ◌-◌, ◌≤◌}
 use lib.ListN.{length, drop}
-use borrow.Author.Rules.{rules}
-use borrow.Author.Tests.{not-true, not-false}
 use Rattle.schedule.specs.Messages.{messages_in}
 use Rattle.schedule.specs.Frames.{placed_of, before_offending}
-use Rattle.schedule.proofs.Walks.{length_placed, offending_on, offending_here, offending_none}
 use Rattle.schedule.proofs.schedules.Schedule.before_offending.Given as goal
 
 abbrev pub invariant-loop-place : goal.invariant-loop-place

@@ -1,6 +1,4 @@
 -- Safe, and it ends: 64 messages at most. Assumes nothing.
-use borrow.Author.Rules.{rules}
-use native.Mathlib.Omega.{arith}
 use Prim.Native.Nat.{◌-◌, ◌≤◌}
 use Rattle.schedule.proofs.schedules.Schedule.begin.Given as goal
 

@@ -1,15 +1,15 @@
 -- The loop's invariant: the frames up to the place have their loads. Assumes nothing.
-use mathlib.Core.Path.{◌≡◌, refl, sym, ◌∙◌}
-use Prim.Native.Nat.{◌-◌, ◌≤◌, ◌<◌}
+use mathlib.Core.Path.{refl, sym, ◌∙◌}
+use Prim.Native.Nat.{◌<◌}
 use native.Mathlib.Omega.{arith}
-use lib.ListN.{length, take, length-set}
+use lib.ListN.{length-set}
 use Rattle.schedule.specs.Messages.{messages_in}
 use Rattle.schedule.specs.Frames.{placed_of, loads_of}
 use Rattle.schedule.proofs.Fills.{load_at_lem, loads_all, fill_on, fill_all}
 use Rattle.schedule.proofs.schedules.Schedule.fill.Goals as goal
 
 pub loop-frame-init : goal.loop-frame-init
-loop-frame-init c = (omega arith, c.requires.0, c.requires.1, refl)
+loop-frame-init c = (omega arith, c.requires.firsts_len, c.requires.loads_len, refl)
 
 pub frame_load-requires : goal.frame_load-requires
 frame_load-requires c = let inv = c.loop-frame.invariant in inv.1
@@ -33,7 +33,7 @@ loop-frame-preserved c =
     (omega arith, l.invariant.1, simp length-set l.invariant.2, fill_on l.loads (loads_of ps) l.frame _ (omega (arith, l.invariant)) (omega (arith, loads_all ps)) l.invariant.3 is)
 
 pub shape_of-loads : goal.shape_of-loads
-shape_of-loads c = let inv = c.loop-frame.invariant in inv.2 ∙ sym c.requires.1
+shape_of-loads c = let inv = c.loop-frame.invariant in inv.2 ∙ sym c.requires.loads_len
 
 pub returns : goal.returns
 returns c =

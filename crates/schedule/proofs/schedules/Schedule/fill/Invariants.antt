@@ -1,11 +1,9 @@
 -- The loop's invariant: the frames up to the place have their loads. Assumes nothing.
-use mathlib.Core.Path.{◌≡◌, refl, sym, ◌∙◌}
-use Prim.Native.Nat.{◌-◌, ◌≤◌, ◌<◌}
-use native.Mathlib.Omega.{arith}
-use lib.ListN.{length, take, length-set}
+use mathlib.Core.Path.{◌≡◌}
+use Prim.Native.Nat.{◌-◌, ◌≤◌}
+use lib.ListN.{length, take}
 use Rattle.schedule.specs.Messages.{messages_in}
 use Rattle.schedule.specs.Frames.{placed_of, loads_of}
-use Rattle.schedule.proofs.Fills.{load_at_lem, loads_all, fill_on, fill_all}
 use Rattle.schedule.proofs.schedules.Schedule.fill.Given as goal
 
 abbrev pub invariant-loop-frame : goal.invariant-loop-frame

@@ -1,11 +1,8 @@
 -- The loop's invariant: the sum, and the load of those from the place on, make the whole. Assumes nothing.
-use mathlib.Core.Path.{◌≡◌}
-use Prim.Native.Nat.{◌+◌, ◌-◌, ◌≤◌, ◌<◌}
+use Prim.Native.Nat.{◌<◌}
 use native.Mathlib.Omega.{arith}
-use lib.ListN.{length, drop}
-use borrow.Author.Rules.{rules}
+use lib.ListN.{length}
 use Rattle.schedule.specs.Messages.{messages_in}
-use Rattle.schedule.specs.Frames.{placed_of, frame_load}
 use Rattle.schedule.proofs.Walks.{load_on, load_within, load_all}
 use Rattle.schedule.proofs.schedules.Schedule.frame_load.Goals as goal
 
@@ -22,8 +19,8 @@ pub overflow_add-sum : goal.overflow_add-sum
 overflow_add-sum c =
     let l = c.loop-i in
     let a = c.args in
-    let inside : l.i < length (messages_in a.t1) = omega (arith, l.invariant, c.loop-i-test.true) in
-    let few = load_within a.t1 l.i _ inside a.firsts.now (omega (arith, l.invariant)) a.frame l.sum _ l.invariant.3 c.part-sum.ensures.ticks in
+    let inside : l.i < length (messages_in a.self) = omega (arith, l.invariant, c.loop-i-test.true) in
+    let few = load_within a.self l.i _ inside a.firsts.now (omega (arith, l.invariant)) a.frame l.sum _ l.invariant.3 c.part-sum.ensures.ticks in
     omega (arith, l.invariant, few)
 
 pub overflow_add-i : goal.overflow_add-i
@@ -36,13 +33,13 @@ pub loop-i-preserved : goal.loop-i-preserved
 loop-i-preserved c =
     let l = c.loop-i in
     let a = c.args in
-    let inside : l.i < length (messages_in a.t1) = omega (arith, l.invariant, c.loop-i-test.true) in
-    (l.invariant.0, l.invariant.1, l.invariant.2, rw c.part-sum.ensures.ticks (load_on a.t1 l.i _ inside a.firsts.now (omega (arith, l.invariant)) _ _ _ l.invariant.3))
+    let inside : l.i < length (messages_in a.self) = omega (arith, l.invariant, c.loop-i-test.true) in
+    (l.invariant.0, l.invariant.1, l.invariant.2, rw c.part-sum.ensures.ticks (load_on a.self l.i _ inside a.firsts.now (omega (arith, l.invariant)) _ _ _ l.invariant.3))
 
 pub returns : goal.returns
 returns c =
     record {
       ticks = let l = c.loop-i in
           let a = c.args in
-          load_all a.t1 a.firsts.now l.i (omega (arith, l.invariant, c.loop-i-test.false)) (omega (arith, l.invariant)) _ _ _ l.invariant.3;
+          load_all a.self a.firsts.now l.i (omega (arith, l.invariant, c.loop-i-test.false)) (omega (arith, l.invariant)) _ _ _ l.invariant.3;
     }

@@ -1,12 +1,9 @@
 -- The loop's invariant: the sum, and the load of those from the place on, make the whole. Assumes nothing.
 use mathlib.Core.Path.{◌≡◌}
-use Prim.Native.Nat.{◌+◌, ◌-◌, ◌≤◌, ◌<◌}
-use native.Mathlib.Omega.{arith}
+use Prim.Native.Nat.{◌+◌, ◌-◌, ◌≤◌}
 use lib.ListN.{length, drop}
-use borrow.Author.Rules.{rules}
 use Rattle.schedule.specs.Messages.{messages_in}
 use Rattle.schedule.specs.Frames.{placed_of, frame_load}
-use Rattle.schedule.proofs.Walks.{load_on, load_within, load_all}
 use Rattle.schedule.proofs.schedules.Schedule.frame_load.Given as goal
 
 abbrev pub invariant-loop-i : goal.invariant-loop-i

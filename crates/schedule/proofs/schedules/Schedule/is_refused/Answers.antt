@@ -1,6 +1,5 @@
 -- Both tests. Assumes nothing.
 use Rattle.schedule.specs.Messages.{is_refused}
-use borrow.Author.Rules.{rules}
 use Rattle.schedule.proofs.schedules.Schedule.is_refused.Goals as goal
 
 pub returns : goal.returns

@@ -1,7 +1,5 @@
 -- Safe, and it ends: 64 messages at most. Assumes nothing.
-use borrow.Author.Rules.{rules}
 use native.Mathlib.Omega.{arith}
-use Prim.Native.Nat.{◌-◌, ◌≤◌}
 use Rattle.schedule.proofs.schedules.Schedule.next_among.Goals as goal
 
 pub loop-i-init : goal.loop-i-init

@@ -1,7 +1,5 @@
 -- Safe, and it ends: the steps are counted down. Assumes nothing.
-use borrow.Author.Rules.{rules}
 use native.Mathlib.Omega.{arith}
-use Prim.Native.Nat.{◌-◌}
 use Rattle.schedule.proofs.schedules.Schedule.search.Goals as goal
 
 pub loop-steps-init : goal.loop-steps-init
