@@ -59,7 +59,7 @@ pub fn failure_of(file: &File) -> i32 {
     }
 }
 
-impl<'a> Source<'a> {
+impl Source<'_> {
     // Reads some bytes to the front of the chunk and gives how many, 0 at the end, or the system's number for why it could not.
     // Tables: chunk holds what was read at its front. Refusals: none.
     pub fn read(self, chunk: &mut [u8]) -> Result<usize, i32>
