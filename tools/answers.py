@@ -48,6 +48,46 @@ def items(text):
     return head, [(n, "\n".join(b).rstrip()) for n, b in out]
 
 
+def nested(digits, names):
+    """`.1.0` of clauses that were pairs within pairs, by the clause's name; what follows stays."""
+    i = 0
+    while i < len(names) - 1 and digits and digits[0] == "1":
+        i, digits = i + 1, digits[1:]
+    if i < len(names) - 1:
+        if not digits or digits[0] != "0":
+            return ["1"] * i + digits
+        digits = digits[1:]
+    return [label(names[i]), *digits]
+
+
+def flat(body, n):
+    """The n parts of pairs within pairs, or None."""
+    parts = parts_of(body)
+    if parts is None or n < 2:
+        return None
+    parts = [q.strip() for q in parts]
+    if len(parts) == n:
+        return parts
+    if len(parts) == 2 and n > 2:
+        rest = flat(parts[1], n - 1)
+        return None if rest is None else [parts[0], *rest]
+    return None
+
+
+def last_term(body):
+    """The lets of a term, and the term behind them."""
+    depth, cut = 0, 0
+    for m in re.finditer(r"[(\[{]|[)\]}]|\bin(?=\s)", body):
+        t = m.group(0)
+        if t in "([{":
+            depth += 1
+        elif t in ")]}":
+            depth -= 1
+        elif depth == 0:
+            cut = m.end()
+    return body[:cut], body[cut:].strip()
+
+
 class Function:
     def __init__(self, key, of, path):
         self.key, self.of, self.path = key, of, path
@@ -92,9 +132,7 @@ class Function:
             if len(names) == 1 and names[0]:
                 rest = ["ensures", label(names[0]), *rest[1:]]
             elif len(names) > 1 and len(rest) > 1 and rest[1].isdigit():
-                rest = ["ensures", label(names[int(rest[1])]), *rest[2:]]
-            elif len(names) > 1:
-                looks.append(f"{head}.ensures has {names}")
+                rest = ["ensures", *nested(rest[1:], names)]
         return ".".join([new, *rest])
 
     def turn(self, body, looks):
@@ -115,7 +153,15 @@ class Function:
             return m.group(1) + "." + self.place(rest[i], rest[i + 1:], looks)
 
         names = "|".join(sorted(aliases))
-        return re.sub(r"(?<![\w'\-.])(%s)((?:\.[A-Za-z0-9_'\-\u2080]+)+)" % names, one, body)
+        told = {}
+        for m in re.finditer(r"\blet (\w+) = (?:%s)(?:\.before)*\.([\w\-]+)\.ensures in" % names, body):
+            fields = self.fields.get(alike(m.group(2)))
+            if fields and len(fields) > 1:
+                told[m.group(1)] = fields
+        body = re.sub(r"(?<![\w'\-.])(%s)((?:\.[A-Za-z0-9_'\-\u2080]+)+)" % names, one, body)
+        for var, fields in told.items():
+            body = re.sub(r"(?<![\w'\-.])%s((?:\.[01])+)" % var, lambda m: var + "." + ".".join(nested(m.group(1)[1:].split("."), fields)), body)
+        return body
 
 
 def label(n):
@@ -180,9 +226,10 @@ def convert(p, of, key, module):
             elif asked and len(asked) > 1 and re.match(r"search\b", body.strip()):
                 body = "record { " + "; ".join(f"{label(n)} = {body.strip()}" for n in asked) + " }"
             elif asked and len(asked) > 1:
-                parted = parts_of(body.strip())
-                if parted and len(parted) == len(asked):
-                    body = "record { " + "; ".join(f"{label(n)} = {q.strip()}" for n, q in zip(asked, parted)) + " }"
+                lets, last = last_term(body)
+                parted = flat(last, len(asked))
+                if parted:
+                    body = lets + ("\n    " if lets else "") + "record { " + "; ".join(f"{label(n)} = {q.strip()}" for n, q in zip(asked, parted)) + " }"
                 else:
                     looks.append(f"{new} wants the clauses {asked}: {body.strip()[:80]}")
             sep = "\n    " if "\n" in body.strip() else " "

@@ -1,15 +1,15 @@
 -- What waits after a text more: one law for each way that it takes, from the facts that the code's tests give. Assumes nothing.
-use mathlib.Core.Path.{◌≡◌, refl, sym, ap, ap₂, ◌∙◌}
+use mathlib.Core.Path.{◌≡◌, refl, sym, ap, ◌∙◌}
 use mathlib.Core.Bool.{Bool, true, false}
 use Prim.Native.Nat.{ℕ, suc, ◌+◌, ◌-◌, ◌≤◌, ◌<◌}
 use native.Mathlib.Nat.{lt_of_not-le}
 use native.Mathlib.Omega.{arith}
 use native.Mathlib.Decide.{dec_le}
 use mathlib.Core.Logic.{dite}
-use mathlib.Core.List.{List, [], ◌∷◌, ◌++◌, append-nil}
+use mathlib.Core.List.{List, [], ◌∷◌, ◌++◌}
 use lib.Dec.{leb}
-use lib.ListN.{length, set, take, drop, length-drop, drop_of_length-le}
-use lib.Seq.{set_split, take_all, take-length, drop-drop}
+use lib.ListN.{length, set, take, drop}
+use lib.Seq.{set_split, take_all, drop-drop}
 use borrow.Author.Tests.{leb-true, le-leb, lt-leb, lt-ltb, le-ltb}
 use borrow.Rule.Slice.PartMut.{put_mid}
 use Rattle.lines.specs.Sinks.{block_bytes, fits_behind, place_after, put_at, block_after}
@@ -116,17 +116,8 @@ stored block at byte l =
     set_split block at byte l ∙ ap (λ (k : ℕ). take at block ++ byte ∷ drop k block) {x = suc at} {y = at + 1} (omega arith)
 
 -- a text was copied into the part of the block from a place on
-pub copied : (block text last : List ℕ) (at : ℕ) → at + length text ≤ length block
-    → last ≡ take (length text) text ++ drop (length text) (take (length block - at) (drop at block))
-    → put_mid at (length block - at) block last ≡ put_at block at text
-copied block text last at l q =
-    let n = length text in
-    let room = length block - at in
-    let part : take room (drop at block) ≡ drop at block = take_all room (drop at block) (omega (arith, length-drop at block)) in
-    let none : drop room (drop at block) ≡ [] = drop_of_length-le (drop at block) {i = room} (omega (arith, length-drop at block)) in
-    let rest : drop n (take room (drop at block)) ≡ drop (at + n) block = ap (drop n) part ∙ drop-drop n at block in
-    ap (λ (z : List ℕ). take at block ++ z)
-    (ap₂ ◌++◌ (q ∙ ap₂ ◌++◌ (take-length text) rest) none ∙ append-nil (text ++ drop (at + n) block))
+pub copied : (block text last : List ℕ) (at n : ℕ) → n ≡ length text → last ≡ text → put_mid at n block last ≡ put_at block at text
+copied block text last at n m q = rw (q, m) (ap (λ (z : List ℕ). take at block ++ (text ++ z)) (drop-drop (length text) at block))
 
 -- ---- what goes out
 

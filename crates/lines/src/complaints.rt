@@ -1,11 +1,13 @@
 // What goes to standard error, and the line that closes what failed (02 a, c, j). What the system takes of it no contract can say: a function that gives nothing promises
 // that what it is lent is as before, to which its type holds it too, and what waits for standard error is that of `put_sentence`. Meaning of the rest: specs/Sinks.antt,
 // specs/Names.antt. Refusals: none.
-ghost use Rattle.std.specs.Prelude.{◌≡◌, true};
+ghost use Rattle.std.specs.Prelude.{◌≡◌, ◌≤◌, true, length};
 ghost use Rattle.lines.specs.Names.{error_text, block_after_named, place_after_sentence, block_after_sentence};
 
-use crate::sinks::{Block, Sink};
-use libc::STDERR_FILENO;
+use crate::sinks::{Block, ERRORS, Sink, Target};
+use std::fs::File;
+use std::io::{Cursor, Error, Write};
+use std::os::fd::{AsRawFd, IntoRawFd};
 
 // Begins a sentence on standard error: "PROGRAM: NAME", with no line end.
 // Tables: program and name are only read. Refusals: none.
@@ -14,19 +16,33 @@ pub fn begin_complaint(program: &[u8], name: &[u8])
     ensures name { name.now ≡ name.now }
 {
     let mut block = io::large_buffer();
-    Sink::to(STDERR_FILENO)
+    Sink::to(Target::Errors)
         .put_sentence(&mut block, program, name)
         .flush(&block);
 }
 
-// Says what failed just now, with the system's reason: "PROGRAM: NAME: REASON".
+// Gives how many bytes of a text stand before " (os error": the words of a failure without its number.
+fn words_end(text: &[u8]) -> usize
+    ensures within { result ≤ length text.now }
+{
+    for i in 0..text.len() {
+        if text[i] == b'(' {
+            return if i == 0 { 0 } else { i - 1 };
+        }
+    }
+    text.len()
+}
+
+// Says what failed, with the system's reason, by its number: "PROGRAM: NAME: REASON".
 // Tables: program and name are only read. Refusals: none.
-pub fn complain(program: &[u8], name: &[u8])
+pub fn complain(program: &[u8], name: &[u8], why: i32)
     ensures program { program.now ≡ program.now }
     ensures name { name.now ≡ name.now }
 {
-    begin_complaint(program, name);
-    os::fail(b"");
+    let mut reason = Cursor::new([0u8; 128]);
+    let _ = write!(reason, ": {}", Error::from_raw_os_error(why));
+    let text = reason.into_inner();
+    remark(program, name, &text[..words_end(&text)]);
 }
 
 // Says something of a file, as ": not whole": "PROGRAM: NAME: not whole".
@@ -37,17 +53,18 @@ pub fn remark(program: &[u8], name: &[u8], what: &[u8])
     ensures what { what.now ≡ what.now }
 {
     begin_complaint(program, name);
-    io::write_all(STDERR_FILENO, what);
-    io::write_all(STDERR_FILENO, b"\n");
+    io::write_all(ERRORS, what);
+    io::write_all(ERRORS, b"\n");
 }
 
 // Keeps standard error's number from the next file that is made: where standard error is closed, that file would get it, and with it what is said of a failure. To
 // be called once the other two numbers are in use.
 // Tables: none. Refusals: none.
-pub fn hold_errors() {
-    let held = os::open_read(b"/dev/null");
-    if held > STDERR_FILENO {
-        libc::close(held);
+pub fn hold_errors(rt: HostRuntime) {
+    if let Ok(held) = File::open(&rt, "/dev/null") {
+        if held.as_raw_fd() <= ERRORS {
+            let _kept = held.into_raw_fd();
+        }
     }
 }
 
@@ -74,7 +91,7 @@ impl Sink {
     {
         let after = self.flush(block);
         if after.failed & !self.failed {
-            complain(program, b"standard output");
+            complain(program, b"standard output", after.why);
         }
         after
     }
@@ -92,15 +109,15 @@ impl Sink {
         ended.flush_told(block, program)
     }
 
-    // Says what failed just now, and ends the lines by its name.
+    // Says what failed, by the system's number for it, and ends the lines by its name.
     // Tables: block holds that line where it waits, from the front on; program and name are only read. Refusals: none; `failed` says whether a write has failed.
-    pub fn fail(self, block: &mut Block, program: &[u8], name: &[u8]) -> Sink
+    pub fn fail(self, block: &mut Block, program: &[u8], name: &[u8], why: i32) -> Sink
         ensures place { result.at ≡ 0 }
         ensures file { result.fd ≡ self.fd }
         ensures block { block.new ≡ block_after_named block.old 0 error_text name.now }
         ensures stays { self.failed ≡ true → result.failed ≡ true }
     {
-        complain(program, name);
+        complain(program, name, why);
         self.end_in_error(block, program, name)
     }
 }

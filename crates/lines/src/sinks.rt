@@ -6,24 +6,56 @@ ghost use Rattle.lines.specs.Names.{place_after_name, block_after_name, place_af
 
 use crate::names::shown;
 use crate::spells::{digit, spell_byte, spell_text};
+use std::io::{Error, ErrorKind, Print, Result, Stdout};
+
+// the number of standard error, which needs no handle: what is said there is said whatever becomes of it
+pub(crate) const ERRORS: i32 = 2;
 
 // The bytes that wait, from the front on.
 pub type Block = [u8; 65536];
 
 const BLOCK_BYTES: usize = 65536;
 
-// Where bytes go, how many wait in the block, and whether a write has failed: then the others are dropped.
+// An open file: standard output, standard error, or one that was made, by its descriptor's number.
+#[derive(Clone, Copy)]
+pub enum Target {
+    Output(Stdout),
+    Errors,
+    Made(i32),
+}
+
+impl Target {
+    // Writes all bytes, or gives why it could not; of a file that was made its owner finds that out (`failure_of`).
+    fn write(self, bytes: &[u8]) -> Result<()> {
+        match self {
+            Target::Output(output) => Print::write_all(&output, bytes),
+            Target::Errors => write_to(ERRORS, bytes),
+            Target::Made(number) => write_to(number, bytes),
+        }
+    }
+}
+
+// Writes all bytes to an open file.
+fn write_to(number: i32, bytes: &[u8]) -> Result<()> {
+    if io::write_all(number, bytes) {
+        return Ok(());
+    }
+    Err(Error::from(ErrorKind::Other))
+}
+
+// Where bytes go, how many wait in the block, and whether a write has failed: then the others are dropped. `why` is the system's number of that failure.
 #[derive(Clone, Copy)]
 pub struct Sink {
-    pub fd: i32,
+    pub fd: Target,
     pub at: usize,
     pub failed: bool,
+    pub why: i32,
 }
 
 impl Sink {
     // Gives a sink for an open file, with no byte waiting.
     // Tables: none. Refusals: none.
-    pub fn to(fd: i32) -> Sink
+    pub fn to(fd: Target) -> Sink
         ensures place { result.at ≡ 0 }
         ensures file { result.fd ≡ fd }
         ensures unfailed { result.failed ≡ false }
@@ -32,6 +64,7 @@ impl Sink {
             fd,
             at: 0,
             failed: false,
+            why: 0,
         }
     }
 
@@ -46,7 +79,21 @@ impl Sink {
         if self.failed {
             return next;
         }
-        next.failed = !io::write_all(self.fd, bytes);
+        match self.fd.write(bytes) {
+            Ok(()) => next,
+            Err(error) => next.fail_by(error),
+        }
+    }
+
+    // Gives the sink after a write that failed.
+    fn fail_by(self, error: Error) -> Sink
+        ensures place { result.at ≡ self.at }
+        ensures file { result.fd ≡ self.fd }
+        ensures failed { result.failed ≡ true }
+    {
+        let mut next = self;
+        next.failed = true;
+        next.why = error.raw_os_error().unwrap_or(0);
         next
     }
 

@@ -18,7 +18,7 @@ fn copy_to(block: &mut [u8], at: usize, text: &[u8])
     requires { at + length text.now ≤ length block.old }
     ensures block { block.new ≡ put_at block.old at text.now }
 {
-    bytes::copy(text, &mut block[at..]);
+    block[at..at + text.len()].copy_from_slice(text);
 }
 
 // Stores a byte at a place.

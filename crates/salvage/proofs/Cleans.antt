@@ -33,7 +33,7 @@ reads_kept last s t ps f l rest =
     record {
       walk = walk_on front (kept_bytes ps) (kept_records ps) f.r (record_at front) sixteen (read (kept_bytes ps)) record_is rest.walk;
       order = (
-        subst (λ (r : WordRecord). in_time last r.time.0 ≡ true) (sym record_is) f.in-time,
+        subst (λ (r : WordRecord). in_time last r.time.0 ≡ true) (sym record_is) f.is_in_time,
         subst (λ (m : Moment). InOrder (At m) (kept_records ps)) (sym time_is) rest.order,
       );
     }

@@ -1,5 +1,5 @@
 -- What stands at the front of some bytes, and how the definitions go on behind it. Assumes nothing.
-use Rattle.std.proofs.Common.{◌≡◌, ℕ, zero, suc, ◌+◌, ◌-◌, ◌<◌, ◌≤◌, Bool, true, false, cond, List, [], ◌∷◌, ◌++◌, length, take, drop, sym, refl, ap, ◌∙◌, append-nil, lt_of_not-le, arith, length-drop, take-append-drop, length-take-le, drop-drop, le-ltb, lt-ltb}
+use Rattle.std.proofs.Common.{◌≡◌, ℕ, zero, suc, ◌+◌, ◌<◌, ◌≤◌, Bool, true, false, cond, List, [], ◌∷◌, ◌++◌, length, take, drop, sym, refl, ap, ◌∙◌, append-nil, lt_of_not-le, arith, length-drop, take-append-drop, length-take-le, drop-drop, le-ltb, lt-ltb}
 use native.Mathlib.Decide.{dec_le}
 use mathlib.Core.Logic.{dite}
 use Rattle.words.specs.declared.times.Moment.{Moment}
@@ -54,7 +54,7 @@ unfolding choice_of
 found last s t q = by (read_of last_bus s) refl q
   where
     kept_by_lem : (r : WordRecord) (b : Bool) → read_of last_bus s ≡ Record r → in_time last r.time.0 ≡ b → cond b (Keeps r.time) Skips ≡ Keeps t → InTime last s t
-    kept_by_lem r true e h k = record { r = r; reads = e; timed = cc; in_time_lem = h }
+    kept_by_lem r true e h k = record { r = r; reads = e; timed = cc; is_in_time = h }
     kept_by_lem r false e h k = absurd (never t k)
 
     by : (g : Read) → read_of last_bus s ≡ g → chosen last g ≡ Keeps t → InTime last s t

@@ -1,7 +1,7 @@
 -- Kept and skipped bytes together: every byte is in one piece, and the runs that are listed are the skipped ones. Assumes nothing.
 use Rattle.std.proofs.Common.{◌≡◌, ℕ, zero, suc, ◌+◌, ◌-◌, ◌*◌, ◌≤◌, Bool, true, false, List, [], ◌∷◌, ◌++◌, length, take, drop, replicate, sym, refl, ap, ◌∙◌, subst, ap₂, append_assoc, zero-add, arith, length-append, length-drop, take-append-drop, length-take-le}
 use lib.ListN.{replicate-append-replicate, length-replicate}
-use Rattle.salvage.specs.Pieces.{Piece, kept, skipped, pieces_from, pieces_of, after_first, listed, runs_from, runs_of, records_in, skipped_in}
+use Rattle.salvage.specs.Pieces.{Piece, kept, skipped, pieces_from, pieces_of, after_first, runs_from, runs_of, records_in, skipped_in}
 use Rattle.salvage.specs.Theorems.{EachPlace, joined, flags, marks, Sixteen, in_runs, AllBytes, Apart, RunsLongest}
 use Rattle.salvage.specs.declared.choices.Last.{Last}
 use Rattle.salvage.specs.declared.choices.Last.TheVariants.{Nothing, At}

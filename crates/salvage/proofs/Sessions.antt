@@ -1,9 +1,9 @@
 -- Whatever the calls, what the machine has given and what still waits make up the definition's result. Assumes nothing.
-use Rattle.std.proofs.Common.{◌≡◌, ℕ, zero, suc, ◌+◌, ◌-◌, ◌/◌, ◌^◌, ◌<◌, ◌≤◌, Bool, true, false, cond, eqb, ltb, List, [], ◌∷◌, ◌++◌, length, take, drop, sym, refl, ap, ◌∙◌, subst, ap₂, append_assoc, append-nil, zero-add, arith, length-append, length-drop, take-append-drop, length-take, length-take-le, take-take, drop-drop, ltb-false, ltb-true}
+use Rattle.std.proofs.Common.{◌≡◌, ℕ, zero, suc, ◌+◌, ◌-◌, ◌/◌, ◌^◌, ◌<◌, ◌≤◌, Bool, true, false, cond, eqb, ltb, List, [], ◌∷◌, ◌++◌, length, take, drop, sym, refl, ap, ◌∙◌, subst, ap₂, append_assoc, append-nil, zero-add, arith, length-append, length-drop, take-append-drop, take-take, drop-drop, ltb-false, ltb-true}
 use native.Mathlib.Decide.{dec_le}
 use mathlib.Core.Logic.{dite}
-use lib.Seq.{take-nil, take-append-add, take-append_seam}
-use Rattle.windows.specs.Windows.{count_of, waiting_in, after_taking, filled_of, filled_room}
+use lib.Seq.{take-nil}
+use Rattle.windows.specs.Windows.{count_of, waiting_in, filled_of, filled_room}
 use Rattle.windows.proofs.Waiting.{waiting_count, taken_waits, taken_count, taken_inside, filled_waits, filled_few, filled_some}
 use Rattle.words.specs.Counts.{sum64}
 use Rattle.salvage.specs.Pieces.{pieces_from, pieces_of, after_first, first_of, first_in, version_of, clean_of, listed, runs_of, changed_of, records_in, skipped_in}

@@ -1,5 +1,5 @@
 -- A tally of the pieces so far, kept piece by piece: what the definition gives of a whole file. Assumes nothing.
-use Rattle.std.proofs.Common.{◌≡◌, ℕ, zero, suc, ◌+◌, ◌-◌, ◌/◌, ◌<◌, ◌≤◌, cond, eqb, List, [], ◌∷◌, ◌++◌, length, take, drop, sym, refl, ap, ◌∙◌, subst, ap₂, append_assoc, append-nil, add-zero, lt_of_not-le, arith, length-drop, drop-drop, take-add, eq-eqb, ne_eqb}
+use Rattle.std.proofs.Common.{◌≡◌, ℕ, zero, suc, ◌+◌, ◌/◌, ◌<◌, ◌≤◌, cond, eqb, List, [], ◌∷◌, ◌++◌, length, take, drop, sym, refl, ap, ◌∙◌, subst, ap₂, append_assoc, append-nil, add-zero, lt_of_not-le, arith, length-drop, drop-drop, take-add, eq-eqb, ne_eqb}
 use native.Mathlib.Decide.{dec_le}
 use mathlib.Core.Logic.{dite}
 use lib.Seq.{take-append-le, drop-append-le}

@@ -22,7 +22,7 @@ pub record InTime (last : Last) (bytes : List ℕ) (time : Moment) : Type 0 wher
   pub r : WordRecord
   pub reads : read_of last_bus bytes ≡ Record r
   pub timed : r.time ≡ time
-  pub in_time_lem : in_time last r.time.0 ≡ true
+  pub is_in_time : in_time last r.time.0 ≡ true
 
 -- At each place the bytes from there on decide. Where 16 read as a record in time, and only there, they are kept, and the walk goes on behind them;
 -- else one is skipped: each_place

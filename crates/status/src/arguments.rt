@@ -4,28 +4,77 @@
 ghost use Rattle.std.specs.Prelude.{◌≡◌, true, false, ◌⊎◌, ◌<◌, ◌≤◌, length};
 ghost use Rattle.status.specs.Arguments.{wanted_most, is_help, is_option, typed_of};
 
-use libc::ENAMETOOLONG;
 use lines::{is_same, remark};
+use std::env::{Env, FillError};
+
+// What asking for an argument gave: how many bytes of it stand at the front of the text, 0 where there is none or it does not fit, and whether it is longer than the text.
+#[derive(Clone, Copy)]
+pub struct Asked {
+    pub length: usize,
+    pub long: bool,
+}
+
+// Asks for the argument at a place; that at 0 is the program.
+// Tables: text holds it at its front. Refusals: none.
+pub fn ask(rt: HostRuntime, place: usize, text: &mut [u8]) -> Asked
+    ensures length { result.length ≤ length text.new }
+{
+    match rt.arg(place, text) {
+        Ok(length) => Asked {
+            length,
+            long: false,
+        },
+        Err(FillError::TooLong) => Asked {
+            length: 0,
+            long: true,
+        },
+        Err(FillError::NotPresent) => Asked {
+            length: 0,
+            long: false,
+        },
+    }
+}
+
+// Says whether there is an argument at a place.
+fn is_there(rt: HostRuntime, place: usize) -> bool {
+    let mut text = [0u8; 1];
+    match rt.arg(place, &mut text) {
+        Ok(_) => true,
+        Err(FillError::TooLong) => true,
+        Err(FillError::NotPresent) => false,
+    }
+}
+
+// Gives how many arguments there are, the program with them.
+// Tables: none. Refusals: none.
+pub fn count_arguments(rt: HostRuntime) -> usize {
+    for place in 0..usize::MAX {
+        if !is_there(rt, place) {
+            return place;
+        }
+    }
+    usize::MAX
+}
 
 // Says whether the argument at a place is a text of at most 11 bytes. A longer one gives a length of 0, and is none.
 // Tables: wanted is only read. Refusals: none.
-pub fn is_at(place: usize, wanted: &[u8]) -> bool
+pub fn is_at(rt: HostRuntime, place: usize, wanted: &[u8]) -> bool
     ensures short { result ≡ true → length wanted.now ≤ wanted_most }
 {
     let mut text = [0u8; 11];
-    let length = os::arg(place, &mut text);
+    let length = ask(rt, place, &mut text).length;
     is_same(&text[..length], wanted)
 }
 
 // Gives the number of the argument at a place as it was typed: `--status-fd N`, which `./bus` puts in front of all others, is not counted.
 // Tables: none. Refusals: none.
-pub fn typed_number(place: usize) -> usize
+pub fn typed_number(rt: HostRuntime, place: usize) -> usize
     ensures number { (result ≡ typed_of true place) ⊎ (result ≡ typed_of false place) }
 {
     if place < 3 {
         return place;
     }
-    if is_at(1, b"--status-fd") {
+    if is_at(rt, 1, b"--status-fd") {
         return place - 2;
     }
     place
@@ -40,9 +89,9 @@ fn is_help(text: &[u8]) -> bool
 
 // Says whether the argument at a place asks for help. A longer one gives a length of 0, and does not.
 // Tables: none. Refusals: none.
-pub fn asks_help(place: usize) -> bool {
+pub fn asks_help(rt: HostRuntime, place: usize) -> bool {
     let mut help = [0u8; 6];
-    let length = os::arg(place, &mut help);
+    let length = ask(rt, place, &mut help).length;
     is_help(&help[..length])
 }
 
@@ -57,16 +106,16 @@ pub fn is_option(text: &[u8]) -> bool
     text[0] == b'-'
 }
 
-// Says whether the argument that was just asked for, and has so many bytes, is the name of a file. Where it is none, standard error says why.
+// Says whether the argument that was asked for is the name of a file. Where it is none, standard error says why.
 // Tables: program and which, the argument's name in the usage, are only read. Refusals: none.
-pub fn is_name(program: &[u8], which: &[u8], length: usize) -> bool
-    ensures empty { result ≡ true → 0 < length }
+pub fn is_name(program: &[u8], which: &[u8], asked: Asked) -> bool
+    ensures empty { result ≡ true → 0 < asked.length }
 {
-    if os::errno() == ENAMETOOLONG {
+    if asked.long {
         remark(program, which, b" is longer than a name can be: 4095 bytes");
         return false;
     }
-    if length == 0 {
+    if asked.length == 0 {
         remark(program, which, b" is empty: it must be the name of a file");
         return false;
     }

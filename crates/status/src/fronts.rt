@@ -1,12 +1,20 @@
 // The front of a call: `--status-fd N` and `--version`, before all else (docs/LINES.md, "The status"). What the system hands out and takes no contract can say: what each
 // function gives whatever that is, it promises. Meaning: specs/Fronts.antt. Refusals: none.
-ghost use Rattle.std.specs.Prelude.{◌≡◌, true, false, ◌⊎◌, pos};
+ghost use Rattle.std.specs.Prelude.{◌≡◌, true, false, ◌⊎◌, ◌≤◌, pos, length};
 ghost use Rattle.status.specs.Fronts.{descriptor_of, is_number, front_of, front_in, usage_of};
 
-use crate::arguments::is_at;
+use crate::arguments::{ask, is_at};
 use crate::statuses::Status;
-use libc::{EBADF, SEEK_CUR, STDERR_FILENO, STDOUT_FILENO};
-use lines::{Number, Sink, complain, read_decimal, remark};
+use lines::{Number, Sink, Target, complain, number_of, read_decimal, remark};
+use std::fs::{OpenOptions, symlink_metadata};
+use std::io::{Print, Write};
+
+const STDOUT: i32 = 1;
+
+const STDERR: i32 = 2;
+
+// the system's number for a pipe that nobody reads
+const BROKEN_PIPE: i32 = 32;
 
 // that of CHANGELOG.md's first entry
 pub const VERSION: [u8; 6] = *b"0.21.0";
@@ -49,12 +57,39 @@ fn descriptor_of(text: &[u8]) -> Descriptor
     Descriptor::Is(number as i32)
 }
 
+// Gives the path under which the system shows a descriptor, and its length.
+fn path_of(fd: i32) -> ([u8; 28], usize)
+    ensures within { result.1 ≤ length result.0 }
+{
+    let mut path = *b"/dev/fd/                    ";
+    let mut digits = [0u8; 20];
+    let count = io::decimal(fd.unsigned_abs() as u64, &mut digits);
+    path[8..8 + count].copy_from_slice(&digits[..count]);
+    (path, 8 + count)
+}
+
 // Says whether a descriptor is open. One that is not would become that of the next file that is opened, and the digit would go there.
-fn is_open(fd: i32) -> bool {
-    if libc::lseek(fd, 0, SEEK_CUR) >= 0 {
-        return true;
+fn is_open(rt: HostRuntime, fd: i32) -> bool {
+    let (path, length) = path_of(fd);
+    match std::str::from_utf8(&path[..length]) {
+        Ok(text) => symlink_metadata(&rt, text).is_ok(),
+        Err(_) => false,
     }
-    os::errno() != EBADF
+}
+
+// Gives the system's number for why a descriptor takes nothing, by a second try. Opened to read and write, a pipe that nobody reads is opened too, and takes all.
+fn failure_at(rt: HostRuntime, fd: i32, digit: u8) -> i32 {
+    let (path, length) = path_of(fd);
+    let Ok(text) = std::str::from_utf8(&path[..length]) else {
+        return 0;
+    };
+    match OpenOptions::new().read(true).write(true).open(&rt, text) {
+        Ok(mut file) => match file.write(&[digit]) {
+            Ok(_) => BROKEN_PIPE,
+            Err(error) => number_of(error),
+        },
+        Err(error) => number_of(error),
+    }
 }
 
 impl Front {
@@ -64,21 +99,22 @@ impl Front {
     {
         Front {
             told: false,
-            fd: STDOUT_FILENO,
+            fd: STDOUT,
             first: 1,
         }
     }
 
     // Ends a run: writes the digit, where it is asked for, as the tool's last act.
     // Tables: program is only read. Refusals: none.
-    pub fn end(self, program: &[u8], status: Status)
+    pub fn end(self, rt: HostRuntime, program: &[u8], status: Status)
         ensures program { program.now ≡ program.now }
     {
         if !self.told {
             return;
         }
         if !io::write_all(self.fd, &[status.digit()]) {
-            complain(program, b"--status-fd");
+            let why = failure_at(rt, self.fd, status.digit());
+            complain(program, b"--status-fd", why);
         }
     }
 }
@@ -92,9 +128,9 @@ fn refuse(front: Front, program: &[u8], why: &[u8]) -> Begun
 }
 
 // Writes "PROGRAM VERSION".
-fn write_version(program: &[u8]) -> Status {
+fn write_version(rt: HostRuntime, program: &[u8]) -> Status {
     let mut block = io::large_buffer();
-    let after = Sink::to(STDOUT_FILENO)
+    let after = Sink::to(Target::Output(rt.stdout()))
         .put_text(&mut block, program)
         .put(&mut block, b' ')
         .put_text(&mut block, &VERSION)
@@ -105,45 +141,47 @@ fn write_version(program: &[u8]) -> Status {
 
 // Writes how a program is called: to standard output where that was asked for, and to standard error where it was called wrongly.
 // Tables: program and usage are only read. Refusals: none.
-pub fn show_usage(program: &[u8], usage: &[u8], asked: bool) -> Status
+pub fn show_usage(rt: HostRuntime, program: &[u8], usage: &[u8], asked: bool) -> Status
     ensures status { (result ≡ usage_of asked true) ⊎ (result ≡ usage_of asked false) }
 {
     if !asked {
-        io::write_all(STDERR_FILENO, usage);
+        io::write_all(STDERR, usage);
         return Status::Usage;
     }
-    let well = io::write_all(STDOUT_FILENO, usage);
-    if !well {
-        complain(program, b"standard output");
+    match Print::write_all(&rt, usage) {
+        Ok(()) => Status::of(true),
+        Err(error) => {
+            complain(program, b"standard output", number_of(error));
+            Status::of(false)
+        }
     }
-    Status::of(well)
 }
 
 // Gives what is asked behind `--status-fd N`, or where there is none.
-fn begin_behind(front: Front, program: &[u8]) -> Begun
+fn begin_behind(rt: HostRuntime, front: Front, program: &[u8]) -> Begun
     ensures front { front_in result ≡ front }
 {
-    if is_at(front.first, b"--status-fd") {
+    if is_at(rt, front.first, b"--status-fd") {
         return refuse(front, program, b" is given twice");
     }
-    if is_at(front.first, b"--version") {
-        return Begun::Over(front, write_version(program));
+    if is_at(rt, front.first, b"--version") {
+        return Begun::Over(front, write_version(rt, program));
     }
     Begun::On(front)
 }
 
 // Gives what the front of a call asks. Where it asks for the version, that is written; where it is wrong, standard error says how.
 // Tables: program is only read. Refusals: none.
-pub fn begin(program: &[u8]) -> Begun
+pub fn begin(rt: HostRuntime, program: &[u8]) -> Begun
     ensures front { front_in result ≡ front_of (front_in result).told (front_in result).fd }
     ensures file { is_number (front_in result).fd ≡ true }
 {
     let untold = Front::untold();
-    if !is_at(1, b"--status-fd") {
-        return begin_behind(untold, program);
+    if !is_at(rt, 1, b"--status-fd") {
+        return begin_behind(rt, untold, program);
     }
     let mut text = [0u8; 20];
-    let length = os::arg(2, &mut text);
+    let length = ask(rt, 2, &mut text).length;
     let Descriptor::Is(fd) = descriptor_of(&text[..length]) else {
         return refuse(
             untold,
@@ -151,7 +189,7 @@ pub fn begin(program: &[u8]) -> Begun
             b" wants the number of an open descriptor, 0 to 2147483647",
         );
     };
-    if !is_open(fd) {
+    if !is_open(rt, fd) {
         return refuse(untold, program, b" names a descriptor that is not open");
     }
     let front = Front {
@@ -159,5 +197,5 @@ pub fn begin(program: &[u8]) -> Begun
         fd,
         first: 3,
     };
-    begin_behind(front, program)
+    begin_behind(rt, front, program)
 }

@@ -6,6 +6,8 @@ mod arguments;
 mod fronts;
 mod statuses;
 
-pub use arguments::{asks_help, is_at, is_name, is_option, typed_number};
+pub use arguments::{
+    Asked, ask, asks_help, count_arguments, is_at, is_name, is_option, typed_number,
+};
 pub use fronts::{Begun, Front, VERSION, begin, show_usage};
 pub use statuses::Status;

@@ -1,4 +1,6 @@
 -- One law for each way out, for the number and for the bytes. Assumes nothing.
+use Rattle.std.proofs.Common.{◌≡◌, length, ap}
+use Rattle.records.specs.Records.{form_of}
 use Rattle.records.proofs.Cases.{no_room, no_room_kept, bad_write, bad_write_kept, written, written_out}
 use borrow.Author.Rules.{rules}
 use Rattle.records.proofs.forms.WordRecord.write.Goals as goal
@@ -11,3 +13,8 @@ returns-then-in_range c = record { refusal = search (written, written_out, rules
 
 pub returns-else-in_range : goal.returns-else-in_range
 returns-else-in_range c = record { refusal = search (bad_write, bad_write_kept, rules); bytes = search (bad_write, bad_write_kept, rules) }
+
+pub copy_from_slice-requires : goal.copy_from_slice-requires
+copy_from_slice-requires c =
+    let e : length c.form-form.result ≡ length (form_of c.args.self) = ap length c.form-form.ensures.bytes in
+    search (e, rules)

@@ -1,0 +1,83 @@
+// Files by the names that were given, any bytes, and what is read of them or of standard input (02 a, c, j). What the system has no contract can say. Refusals: none; where
+// the system refuses, its number for that is given.
+ghost use Rattle.std.specs.Prelude.{◌≤◌, IfOk, length};
+
+use std::fs::{File, OpenOptions};
+use std::io::{Error, Read, Seek, Stdin, Write};
+
+// the system's number for a name that is no text: files are opened by names in UTF-8 alone
+const NO_TEXT: i32 = 84;
+
+// What is read from: standard input, or a file that was opened.
+#[derive(Clone, Copy)]
+pub enum Source<'a> {
+    Input(Stdin),
+    Opened(&'a File),
+}
+
+// Gives the system's number for a failure, 0 where it has none.
+// Tables: none. Refusals: none.
+pub fn number_of(error: Error) -> i32 {
+    error.raw_os_error().unwrap_or(0)
+}
+
+// Opens the file of a name to read it, or gives the system's number for why it could not.
+// Tables: name is only read. Refusals: none.
+pub fn open_named(rt: HostRuntime, name: &[u8]) -> Result<File, i32> {
+    match std::str::from_utf8(name) {
+        Ok(text) => File::open(&rt, text).map_err(number_of),
+        Err(_) => Err(NO_TEXT),
+    }
+}
+
+// Makes the file of a name, which must not exist, to write it, or gives the system's number for why it could not.
+// Tables: name is only read. Refusals: none.
+pub fn make_named(rt: HostRuntime, name: &[u8]) -> Result<File, i32> {
+    match std::str::from_utf8(name) {
+        Ok(text) => OpenOptions::new()
+            .write(true)
+            .create_new(true)
+            .open(&rt, text)
+            .map_err(number_of),
+        Err(_) => Err(NO_TEXT),
+    }
+}
+
+// Gives the system's number for why a write to a file that was made failed, 0 where it has none: it tries one byte more, and takes it back where the system takes it.
+// Tables: none. Refusals: none.
+pub fn failure_of(file: &File) -> i32 {
+    let mut made = file;
+    let place = made.stream_position();
+    match made.write(b" ") {
+        Ok(_) => {
+            if let Ok(end) = place {
+                let _ = file.set_len(end);
+            }
+            0
+        }
+        Err(error) => number_of(error),
+    }
+}
+
+impl<'a> Source<'a> {
+    // Reads some bytes to the front of the chunk and gives how many, 0 at the end, or the system's number for why it could not.
+    // Tables: chunk holds what was read at its front. Refusals: none.
+    pub fn read(self, chunk: &mut [u8]) -> Result<usize, i32>
+        ensures count { IfOk result (λ count. count ≤ length chunk.new) }
+    {
+        let got = match self {
+            Source::Input(input) => {
+                let mut from = input;
+                from.read(chunk)
+            }
+            Source::Opened(file) => {
+                let mut from = file;
+                from.read(chunk)
+            }
+        };
+        match got {
+            Ok(count) => Ok(count),
+            Err(error) => Err(number_of(error)),
+        }
+    }
+}
