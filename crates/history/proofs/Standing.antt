@@ -1,5 +1,5 @@
 -- A stored status stands through all that brings no own command but the two exempt ones. Assumes nothing.
-use mathlib.Core.Path.{◌≡◌, refl, ap, ◌∙◌}
+use mathlib.Core.Path.{◌≡◌, refl, ap, subst, ◌∙◌}
 use Prim.Native.Nat.{ℕ}
 use mathlib.Core.Bool.{Bool, true, false, not, ◌&&◌, ◌||◌}
 use mathlib.Core.List.{List, [], ◌∷◌}
@@ -172,7 +172,7 @@ module _ {setup : Setup} {status : ℕ} where
       go : (b : Bool) → is_accepted s e receive transmit ≡ b → Standing setup status (step s (event e receive transmit))
       go true ok =
           rw (stepped s e receive transmit ok)
-          (taken_stands (passed_of s (time_of e) transmit) e receive transmit (passed_stands s (time_of e) transmit st) (λ quiet. rw (← st.same) (rw (ok, quiet) at outside)))
+          (taken_stands (passed_of s (time_of e) transmit) e receive transmit (passed_stands s (time_of e) transmit st) (λ quiet. subst (λ (x : Setup). leaves_status x.own (event e receive transmit) ≡ true) st.same (rw (ok, quiet) at outside)))
       go false bad = rw (refused_stays s e receive transmit bad) st
   call_stands s (set_up address receive transmit) st outside =
       rw (refusal_keeps s (set_up address receive transmit) (or_cases (not (is_set_up address receive transmit)) false outside (λ h. h) (λ h. false≢ h))) st

@@ -1,11 +1,11 @@
 -- Laws of copying a table element by element. Assumes nothing.
 use mathlib.Core.Path.{◌≡◌, ap, ap₂, ◌∙◌}
-use mathlib.Core.List.{List, [], ◌++◌, append-nil}
+use mathlib.Core.List.{List, ◌++◌, append-nil}
 use Prim.Native.Nat.{ℕ, ◌+◌, ◌<◌, ◌≤◌}
 use native.Mathlib.Nat.{zero-add}
 use native.Mathlib.Numerals.{add-one}
 use native.Mathlib.Omega.{arith}
-use lib.ListN.{length, get_or, set, take, drop, length-drop, drop_of_length-le}
+use lib.ListN.{length, get_or, set, drop, length-drop, drop_of_length-le}
 use lib.Seq.{paste, paste-suc, get_or-drop, take_all}
 
 -- one more element of s copied into the front of d

@@ -1,0 +1,7 @@
+-- Both tests are of the distance that `since` gives. Assumes nothing.
+use Rattle.words.specs.Words.{is_spaced}
+use Rattle.terminal.proofs.states.Message.is_spaced.Goals as goal
+
+pub returns : goal.returns
+unfolding is_spaced
+returns c = record { answer = rw c.since-past.ensures.distance }
