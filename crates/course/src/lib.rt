@@ -150,7 +150,7 @@ fn play(calls: &[u8], ask: bool, receive: &mut [u16; 1024], transmit: &mut [u16;
 // Tables: calls is only read. Refusals: none.
 #[unsafe(no_mangle)]
 pub extern "C" fn course_play(calls: &[u8], ask: bool) -> u64
-    ensures calls { calls.now ≡ calls.now }
+    ensures calls { calls.exit.now ≡ calls.entry.now }
 {
     let mut receive = [0u16; 1024];
     let mut transmit = [0u16; 1024];

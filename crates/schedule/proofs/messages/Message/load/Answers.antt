@@ -11,11 +11,11 @@ overflow_add-result c = omega (arith, single_most c.args.self.first.0, c.single_
 
 pub returns-then-self-eq1 : goal.returns-then-self-eq1
 unfolding load_of
-returns-then-self-eq1 c = record { ticks = rw (eq-eqb _ _ c.if-self-eq1.true, c.single_load.ensures.ticks) refl }
+returns-then-self-eq1 c = record { ticks = rw (eq-eqb c.args.self.commands 1 (omega arith), c.single_load.ensures.ticks) refl }
 
 pub overflow_add-result-2 : goal.overflow_add-result-2
 overflow_add-result-2 c = omega (arith, pair_most c.args.self.first.0, c.pair_load.ensures.ticks)
 
 pub returns : goal.returns
 unfolding load_of
-returns c = record { ticks = rw (ne_eqb _ _ c.if-self-eq1.false, c.pair_load.ensures.ticks) refl }
+returns c = record { ticks = rw (ne_eqb c.args.self.commands 1 (λ h. c.if-self-eq1.false (omega arith)), c.pair_load.ensures.ticks) refl }
