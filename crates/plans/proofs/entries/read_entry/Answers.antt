@@ -1,6 +1,5 @@
 -- One law for each name. Assumes nothing.
 use Rattle.plans.proofs.Sayings.{says_nothing_at_all, message_named, capacity_named, not_named}
-use Rattle.std.proofs.Common.{rules}
 use Rattle.plans.proofs.entries.read_entry.Goals as goal
 
 pub returns-then-line-eq0 : goal.returns-then-line-eq0

@@ -1,6 +1,6 @@
 -- One law for each number of parts. Assumes nothing.
 use Rattle.plans.proofs.Sayings.{single_said, placed_said, pair_said, placed_pair_said, message_wrong}
-use Rattle.std.proofs.Common.{rules}
+use Rattle.std.proofs.Common.{arith}
 use Rattle.plans.proofs.entries.read_message.Goals as goal
 
 pub returns-then-is_command : goal.returns-then-is_command
@@ -32,4 +32,4 @@ returns-in-4 c =
     }
 
 pub returns-in_default : goal.returns-in_default
-returns-in_default c = record { entry = message_wrong _ _ c.parts_behind.ensures.count c.in-2.rest.0.0.1 c.in-2.rest.0.1 c.in-2.rest.1 }
+returns-in_default c = record { entry = message_wrong _ _ c.parts_behind.ensures.count (omega arith) (omega arith) (omega arith) }

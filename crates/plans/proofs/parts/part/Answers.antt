@@ -1,6 +1,5 @@
 -- The part is what stands from its start to the next space. Assumes nothing.
 use Rattle.plans.proofs.Splits.{part_found}
-use Rattle.std.proofs.Common.{rules}
 use Rattle.plans.proofs.parts.part.Goals as goal
 
 pub returns : goal.returns

@@ -1,8 +1,8 @@
 -- The start is as far on as it is in what is left of the line; the measure is what is left. Assumes nothing.
-use Rattle.std.proofs.Common.{◌≡◌, ◌+◌, ◌-◌, ◌≤◌, length, drop, ⊎_elim, arith, rules}
+use Rattle.std.proofs.Common.{arith}
 use Rattle.plans.proofs.Splits.{at_start, past_space, past_other, at_end}
-use Rattle.plans.specs.Parts.{part_start}
 use Rattle.plans.proofs.parts.part_start.Goals as goal
+use Rattle.plans.proofs.parts.part_start.Goals.{then-line-i-eq32, else-line-i-eq32}
 
 pub loop-i-init : goal.loop-i-init
 loop-i-init c = (omega arith, omega arith)
@@ -18,10 +18,10 @@ loop-i-preserved c =
     let l = c.loop-i in
     let test = c.loop-i-test.true in
     let some = c.if-left-eq0.false in
-    ⊎_elim
-    (λ w. rw w.1 (omega arith, past_space _ l.i test l.left _ l.invariant.1 some w.0.taken))
-    (λ w. rw w.1 (omega arith, past_other _ l.i test l.left _ l.invariant.1 some w.0.left))
-    c.if-line-i-eq32.branch
+    elim c.if-line-i-eq32.branch [
+      | then-line-i-eq32 w ↦ rw w.left-is (omega arith, past_space _ l.i test l.left _ l.invariant.1 some w.if-line-i-eq32.true)
+      | else-line-i-eq32 w ↦ rw w.left-is (omega arith, past_other _ l.i test l.left _ l.invariant.1 some w.if-line-i-eq32.false)
+    ]
 
 pub returns : goal.returns
 returns c = record { place = at_end _ _ c.loop-i-test.false _ _ c.loop-i.invariant.1 }

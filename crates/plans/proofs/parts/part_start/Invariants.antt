@@ -1,6 +1,5 @@
 -- The start is as far on as it is in what is left of the line; the measure is what is left. Assumes nothing.
-use Rattle.std.proofs.Common.{◌≡◌, ◌+◌, ◌-◌, ◌≤◌, length, drop, ⊎_elim, arith, rules}
-use Rattle.plans.proofs.Splits.{at_start, past_space, past_other, at_end}
+use Rattle.std.proofs.Common.{◌≡◌, ◌+◌, ◌-◌, ◌≤◌, length, drop}
 use Rattle.plans.specs.Parts.{part_start}
 use Rattle.plans.proofs.parts.part_start.Given as goal
 

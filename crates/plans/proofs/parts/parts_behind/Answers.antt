@@ -1,8 +1,8 @@
 -- What was counted and what stands behind are all; the measure is what is left. Assumes nothing.
-use Rattle.std.proofs.Common.{◌≡◌, ◌+◌, ◌-◌, ◌≤◌, length, drop, ⊎_elim, arith, rules}
+use Rattle.std.proofs.Common.{arith}
 use Rattle.plans.proofs.Splits.{count_space, count_other, counted_all}
-use Rattle.plans.specs.Parts.{parts_behind}
 use Rattle.plans.proofs.parts.parts_behind.Goals as goal
+use Rattle.plans.proofs.parts.parts_behind.Goals.{then-line-i-eq32, else-line-i-eq32}
 
 pub loop-i-init : goal.loop-i-init
 loop-i-init c = (omega arith, omega arith, omega arith)
@@ -17,10 +17,10 @@ pub loop-i-preserved : goal.loop-i-preserved
 loop-i-preserved c =
     let l = c.loop-i in
     let test = c.loop-i-test.true in
-    ⊎_elim
-    (λ w. rw w.1 (omega arith, omega arith, count_space _ l.i test l.count _ l.invariant.2 w.0.taken))
-    (λ w. rw w.1 (omega arith, omega arith, count_other _ l.i test l.count _ l.invariant.2 w.0.left))
-    c.if-line-i-eq32.branch
+    elim c.if-line-i-eq32.branch [
+      | then-line-i-eq32 w ↦ rw w.count-is (omega arith, omega arith, count_space _ l.i test l.count _ l.invariant.2 w.if-line-i-eq32.true)
+      | else-line-i-eq32 w ↦ rw w.count-is (omega arith, omega arith, count_other _ l.i test l.count _ l.invariant.2 w.if-line-i-eq32.false)
+    ]
 
 pub returns : goal.returns
 returns c = record { count = counted_all _ _ c.loop-i-test.false _ _ c.loop-i.invariant.2 }

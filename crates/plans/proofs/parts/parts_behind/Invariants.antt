@@ -1,6 +1,5 @@
 -- What was counted and what stands behind are all; the measure is what is left. Assumes nothing.
-use Rattle.std.proofs.Common.{◌≡◌, ◌+◌, ◌-◌, ◌≤◌, length, drop, ⊎_elim, arith, rules}
-use Rattle.plans.proofs.Splits.{count_space, count_other, counted_all}
+use Rattle.std.proofs.Common.{◌≡◌, ◌+◌, ◌-◌, ◌≤◌, length, drop}
 use Rattle.plans.specs.Parts.{parts_behind}
 use Rattle.plans.proofs.parts.parts_behind.Given as goal
 

@@ -1,5 +1,4 @@
 -- The entry is that of the line. Assumes nothing.
-use Rattle.std.proofs.Common.{rules}
 use Rattle.plans.proofs.readings.with_line.Goals as goal
 
 pub returns : goal.returns

@@ -1,6 +1,5 @@
 -- The schedule is empty. Assumes nothing.
 use Rattle.plans.specs.Drafts.{empty_draft}
-use Rattle.std.proofs.Common.{rules}
 use Rattle.plans.proofs.drafts.Draft.start.Goals as goal
 
 pub returns : goal.returns

@@ -1,5 +1,4 @@
 -- The next line has the next number. Assumes nothing.
-use Rattle.std.proofs.Common.{rules}
 use Rattle.plans.proofs.gatherings.Gathering.next.Goals as goal
 
 pub returns : goal.returns

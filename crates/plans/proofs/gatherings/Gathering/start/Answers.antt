@@ -1,5 +1,4 @@
 -- The bytes that are kept are none. Assumes nothing.
-use Rattle.std.proofs.Common.{rules}
 use Rattle.plans.proofs.gatherings.Gathering.start.Goals as goal
 
 pub returns : goal.returns

@@ -1,5 +1,4 @@
 -- The plan is empty, and the line is the first. Assumes nothing.
-use Rattle.std.proofs.Common.{rules}
 use Rattle.plans.proofs.readings.Reading.start.Goals as goal
 
 pub returns : goal.returns

@@ -1,9 +1,9 @@
 -- What is left of the chunk, fed to the reading so far, comes to what all of it does; the measure is what is left. Assumes nothing.
-use Rattle.std.proofs.Common.{◌≡◌, ◌-◌, true, length, drop, refl, ◌∙◌, ⊎_elim, rules}
+use Rattle.std.proofs.Common.{refl, ◌∙◌}
 use borrow.Author.Tests.{not-true, not-false}
-use Rattle.plans.specs.Machine.{reading_with, fed_of}
 use Rattle.plans.proofs.Feeds.{fed_over, fed_all_lem, line_bad, line_good, byte_bad, byte_good, fed_begun}
 use Rattle.plans.proofs.readings.Reading.take.Goals as goal
+use Rattle.plans.proofs.readings.Reading.take.Goals.{then-chunk-i-eq10+else-is_bad, else-chunk-i-eq10+else-is_bad-2}
 
 pub returns-then-not-self : goal.returns-then-not-self
 returns-then-not-self c = record { reading = fed_over _ _ (not-true _ c.if-not-self.true) }
@@ -50,10 +50,14 @@ pub loop-i-preserved : goal.loop-i-preserved
 loop-i-preserved c =
     let l = c.loop-i in
     let test = c.loop-i-test.true in
-    ⊎_elim
-    (λ w. rw (w.5, w.6) (line_good _ _ _ _ _ l.invariant test w.0.taken _ w.1.ensures _ w.2.ensures w.3.left _ w.4.ensures))
-    (λ w. rw (w.5, w.6) (byte_good _ _ _ _ _ l.invariant test w.0.left _ w.2.ensures _ w.3.ensures w.4.left))
-    c.if-chunk-i-eq10.branch
+    elim c.if-chunk-i-eq10.branch [
+      | then-chunk-i-eq10+else-is_bad w ↦
+          rw (w.draft-is, w.gathering-is)
+          (line_good _ _ _ _ _ l.invariant test w.if-chunk-i-eq10.true _ w.with_line-draft.ensures.draft _ w.is_bad.ensures.answer w.if-is_bad.false _ w.next-gathering.ensures.line)
+      | else-chunk-i-eq10+else-is_bad-2 w ↦
+          rw (w.draft-is, w.gathering-is)
+          (byte_good _ _ _ _ _ l.invariant test w.if-chunk-i-eq10.false _ w.take-gathering.ensures.line _ w.is_bad-else-chunk-i-eq10.ensures.answer w.if-is_bad-2.false)
+    ]
 
 pub returns : goal.returns
 returns c = record { reading = fed_all_lem _ _ _ _ _ c.loop-i.invariant c.loop-i-test.false ∙ fed_begun c.args.self _ (not-false _ c.if-not-self.false) }

@@ -1,8 +1,6 @@
 -- What is left of the chunk, fed to the reading so far, comes to what all of it does; the measure is what is left. Assumes nothing.
-use Rattle.std.proofs.Common.{◌≡◌, ◌-◌, true, length, drop, refl, ◌∙◌, ⊎_elim, rules}
-use borrow.Author.Tests.{not-true, not-false}
+use Rattle.std.proofs.Common.{◌≡◌, ◌-◌, true, length, drop}
 use Rattle.plans.specs.Machine.{reading_with, fed_of}
-use Rattle.plans.proofs.Feeds.{fed_over, fed_all_lem, line_bad, line_good, byte_bad, byte_good, fed_begun}
 use Rattle.plans.proofs.readings.Reading.take.Given as goal
 
 abbrev pub invariant-loop-i : goal.invariant-loop-i
