@@ -1,7 +1,6 @@
 -- The room, and the line where there is one. Assumes nothing.
 use native.Mathlib.Omega.{arith}
 use Rattle.texts.proofs.Choices.{room_line, line_place, line_block}
-use borrow.Author.Rules.{rules}
 use Rattle.texts.proofs.closings.put_run.Goals as goal
 
 pub spell_run-requires : goal.spell_run-requires

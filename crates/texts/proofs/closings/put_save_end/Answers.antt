@@ -2,7 +2,6 @@
 use native.Mathlib.Omega.{arith}
 use Rattle.lines.proofs.Spellings.{then}
 use Rattle.texts.proofs.Choices.{room_line, line_place, line_block}
-use borrow.Author.Rules.{rules}
 use Rattle.texts.proofs.closings.put_save_end.Goals as goal
 
 pub spell_save_end-told-requires : goal.spell_save_end-told-requires

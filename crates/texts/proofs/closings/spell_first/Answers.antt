@@ -3,7 +3,6 @@ use native.Mathlib.Omega.{arith}
 use mathlib.Core.Path.{sym, ◌∙◌}
 use Rattle.lines.proofs.Spellings.{spelled_as}
 use Rattle.texts.proofs.Choices.{first_changed, first_kept}
-use borrow.Author.Rules.{rules}
 use Rattle.texts.proofs.closings.spell_first.Goals as goal
 
 pub returns-then-is_changed : goal.returns-then-is_changed

@@ -1,7 +1,6 @@
 -- Two numbers, each with its name. Assumes nothing.
 use native.Mathlib.Omega.{arith}
 use Rattle.lines.proofs.Spellings.{then}
-use borrow.Author.Rules.{rules}
 use Rattle.texts.proofs.closings.spell_log_end.Goals as goal
 
 pub returns : goal.returns

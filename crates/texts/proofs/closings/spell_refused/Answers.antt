@@ -1,7 +1,6 @@
 -- Four numbers, each with its name. Assumes nothing.
 use native.Mathlib.Omega.{arith}
 use Rattle.lines.proofs.Spellings.{then}
-use borrow.Author.Rules.{rules}
 use Rattle.texts.proofs.closings.spell_refused.Goals as goal
 
 pub returns : goal.returns

@@ -1,7 +1,6 @@
 -- Nothing, or two numbers and the line end. Assumes nothing.
 use Rattle.lines.proofs.Spellings.{then, spelled_as}
 use Rattle.texts.proofs.Choices.{run_none, run_some}
-use borrow.Author.Rules.{rules}
 use Rattle.texts.proofs.closings.spell_run.Goals as goal
 
 pub returns-then-run-eq0 : goal.returns-then-run-eq0

@@ -4,7 +4,6 @@ use mathlib.Core.Path.{sym, ◌∙◌}
 use Rattle.lines.proofs.Spellings.{spelled_as}
 use Rattle.lines.specs.Spells.{text_of}
 use Rattle.texts.proofs.Choices.{address_all, address_one, number_as}
-use borrow.Author.Rules.{rules}
 use Rattle.texts.proofs.entries.spell_address.Goals as goal
 
 pub returns-then-is_broadcast : goal.returns-then-is_broadcast

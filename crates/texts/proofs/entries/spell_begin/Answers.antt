@@ -1,7 +1,6 @@
 -- The time, then the bus. Assumes nothing.
 use native.Mathlib.Omega.{arith}
 use Rattle.lines.proofs.Spellings.{then}
-use borrow.Author.Rules.{rules}
 use Rattle.texts.proofs.entries.spell_begin.Goals as goal
 
 pub returns : goal.returns

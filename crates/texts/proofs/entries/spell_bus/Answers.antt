@@ -2,7 +2,6 @@
 use native.Mathlib.Omega.{arith}
 use Rattle.lines.proofs.Spellings.{spelled_as}
 use Rattle.texts.proofs.Choices.{bus_a, bus_b}
-use borrow.Author.Rules.{rules}
 use Rattle.texts.proofs.entries.spell_bus.Goals as goal
 
 pub returns-then-bus-eq-BUS_A : goal.returns-then-bus-eq-BUS_A

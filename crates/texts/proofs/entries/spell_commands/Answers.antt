@@ -3,7 +3,6 @@ use native.Mathlib.Omega.{arith}
 use mathlib.Core.Path.{sym, ap}
 use Rattle.lines.proofs.Spellings.{spelled_as}
 use Rattle.texts.specs.Entries.{commands_text}
-use borrow.Author.Rules.{rules}
 use Rattle.texts.proofs.entries.spell_commands.Goals as goal
 
 pub returns-in-One : goal.returns-in-One

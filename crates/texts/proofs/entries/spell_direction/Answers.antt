@@ -3,7 +3,6 @@ use native.Mathlib.Omega.{arith}
 use mathlib.Core.Path.{sym, ◌∙◌}
 use Rattle.lines.proofs.Spellings.{spelled_as}
 use Rattle.texts.proofs.Choices.{direction_transmit, direction_receive}
-use borrow.Author.Rules.{rules}
 use Rattle.texts.proofs.entries.spell_direction.Goals as goal
 
 pub returns-then-is_transmit : goal.returns-then-is_transmit

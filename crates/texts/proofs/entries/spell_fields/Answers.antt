@@ -1,7 +1,6 @@
 -- The text, the address, the direction, the rest. Assumes nothing.
 use native.Mathlib.Omega.{arith}
 use Rattle.lines.proofs.Spellings.{then}
-use borrow.Author.Rules.{rules}
 use Rattle.texts.proofs.entries.spell_fields.Goals as goal
 
 pub returns : goal.returns

@@ -1,7 +1,6 @@
 -- The parts of a message, one behind the other. Assumes nothing.
 use native.Mathlib.Omega.{arith}
 use Rattle.lines.proofs.Spellings.{then}
-use borrow.Author.Rules.{rules}
 use Rattle.texts.proofs.entries.spell_message.Goals as goal
 
 pub returns : goal.returns
@@ -12,7 +11,5 @@ returns c =
     let statuses = c.spell_statuses-answered.ensures in
     let counts = c.spell_counts-counted.ensures in
     let gap = c.spell_gap-spaced.ensures in
-    let outcome = c.spell_outcome.ensures in (
-      then begin.text (then named (then commands.text (then statuses.text (then counts.text (then gap.text outcome.text))))),
-      omega (arith, begin.most, named.place, commands.most, statuses.most, counts.most, gap.most, outcome.most),
-    )
+    let outcome = c.spell_outcome.ensures in
+    record { text = then begin.text (then named (then commands.text (then statuses.text (then counts.text (then gap.text outcome.text))))); most = omega (arith, begin.most, named.place, commands.most, statuses.most, counts.most, gap.most, outcome.most) }

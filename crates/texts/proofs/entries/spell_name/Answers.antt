@@ -3,8 +3,7 @@ use native.Mathlib.Omega.{arith}
 use mathlib.Core.Path.{sym, ap}
 use Rattle.lines.proofs.Spellings.{spelled_as}
 use Rattle.texts.specs.Entries.{verdict_name}
-use Rattle.texts.proofs.Choices.{past, unnamed}
-use borrow.Author.Rules.{rules}
+use Rattle.texts.proofs.Choices.{unnamed}
 use Rattle.texts.proofs.entries.spell_name.Goals as goal
 
 pub returns-in-0 : goal.returns-in-0
@@ -87,6 +86,5 @@ returns-in-12 c =
 
 pub returns-in_default : goal.returns-in_default
 returns-in_default c =
-    let rest = c.in-0.rest in
     let spelled = c.spell_text-in_default.ensures.text in
-    record { text = spelled_as (unnamed _ (past 12 _ (past 11 _ (past 10 _ (past 9 _ (past 8 _ (past 7 _ (past 6 _ (past 5 _ (past 4 _ (past 3 _ (past 2 _ (past 1 _ (past 0 _ (omega arith) rest.0.0.0.0.0.0.0.0.0.0.0.0.1) rest.0.0.0.0.0.0.0.0.0.0.0.1) rest.0.0.0.0.0.0.0.0.0.0.1) rest.0.0.0.0.0.0.0.0.0.1) rest.0.0.0.0.0.0.0.0.1) rest.0.0.0.0.0.0.0.1) rest.0.0.0.0.0.0.1) rest.0.0.0.0.0.1) rest.0.0.0.0.1) rest.0.0.0.1) rest.0.0.1) rest.0.1) rest.1)) spelled; most = omega (arith, spelled.place) }
+    record { text = spelled_as (unnamed c.args.number (omega arith)) spelled; most = omega (arith, spelled.place) }

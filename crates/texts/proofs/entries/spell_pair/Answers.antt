@@ -1,7 +1,6 @@
 -- A word, a comma, a word. Assumes nothing.
 use native.Mathlib.Omega.{arith}
 use Rattle.lines.proofs.Spellings.{then}
-use borrow.Author.Rules.{rules}
 use Rattle.texts.proofs.entries.spell_pair.Goals as goal
 
 pub returns : goal.returns

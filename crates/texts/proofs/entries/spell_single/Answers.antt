@@ -1,7 +1,6 @@
 -- The fields of a record, one behind the other. Assumes nothing.
 use native.Mathlib.Omega.{arith}
 use Rattle.lines.proofs.Spellings.{then}
-use borrow.Author.Rules.{rules}
 use Rattle.texts.proofs.entries.spell_single.Goals as goal
 
 pub returns : goal.returns
@@ -11,7 +10,5 @@ returns c =
     let faults = c.spell_number-judged.ensures in
     let named = c.spell_text-named.ensures.text in
     let word = c.spell_word-worded.ensures.text in
-    let parity = c.spell_number.ensures in (
-      then begin.text (then sync.text (then faults.text (then named (then word parity.text)))),
-      omega (arith, begin.most, sync.most, faults.most, named.place, word.place, parity.most),
-    )
+    let parity = c.spell_number.ensures in
+    record { text = then begin.text (then sync.text (then faults.text (then named (then word parity.text)))); most = omega (arith, begin.most, sync.most, faults.most, named.place, word.place, parity.most) }

@@ -3,7 +3,6 @@ use native.Mathlib.Omega.{arith}
 use mathlib.Core.Path.{sym, ap}
 use Rattle.lines.proofs.Spellings.{then, spelled_as}
 use Rattle.texts.specs.Entries.{statuses_text}
-use borrow.Author.Rules.{rules}
 use Rattle.texts.proofs.entries.spell_statuses.Goals as goal
 
 pub returns-in-None : goal.returns-in-None

@@ -1,7 +1,6 @@
 -- Each test is the one of the definition. Assumes nothing.
 use Rattle.lines.proofs.Spellings.{spelled_as}
 use Rattle.texts.proofs.Choices.{parity_flaw}
-use borrow.Author.Rules.{rules}
 use Rattle.texts.proofs.flaws.spell_bad.Goals as goal
 
 pub returns : goal.returns

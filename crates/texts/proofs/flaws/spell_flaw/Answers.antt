@@ -2,7 +2,6 @@
 use native.Mathlib.Omega.{arith}
 use Rattle.lines.proofs.Spellings.{then, spelled_as}
 use Rattle.texts.proofs.Choices.{flaw_none, flaw_some}
-use borrow.Author.Rules.{rules}
 use Rattle.texts.proofs.flaws.spell_flaw.Goals as goal
 
 pub returns-then-not-bad : goal.returns-then-not-bad

@@ -2,7 +2,6 @@
 use native.Mathlib.Omega.{arith}
 use Rattle.lines.proofs.Spellings.{then}
 use Rattle.texts.specs.Entries.{flaws_text}
-use borrow.Author.Rules.{rules}
 use Rattle.texts.proofs.flaws.spell_flaws.Goals as goal
 
 pub returns : goal.returns
@@ -13,7 +12,5 @@ returns c =
     let second = c.spell_flaw-second.ensures in
     let third = c.spell_flaw-third.ensures in
     let fourth = c.spell_flaw-fourth.ensures in
-    let none = c.spell_flaw.ensures in (
-      then begin (then first.text (then second.text (then third.text (then fourth.text none.text)))),
-      omega (arith, begin.place, first.most, second.most, third.most, fourth.most, none.most),
-    )
+    let none = c.spell_flaw.ensures in
+    record { text = then begin (then first.text (then second.text (then third.text (then fourth.text none.text)))); most = omega (arith, begin.place, first.most, second.most, third.most, fourth.most, none.most) }

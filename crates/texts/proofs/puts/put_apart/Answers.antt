@@ -3,7 +3,6 @@ use mathlib.Core.Path.{sym, ap, ◌∙◌}
 use lib.ListN.{length}
 use Rattle.lines.specs.Sinks.{place_after, block_after}
 use Rattle.texts.proofs.Choices.{spelled_size, taken_out}
-use borrow.Author.Rules.{rules}
 use Rattle.texts.proofs.puts.put_apart.Goals as goal
 
 pub slice_bounds-between-end : goal.slice_bounds-between-end

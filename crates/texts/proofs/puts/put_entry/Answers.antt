@@ -1,7 +1,6 @@
 -- Apart, or in its place. Assumes nothing.
 use mathlib.Core.Path.{refl}
 use Rattle.texts.proofs.Choices.{behind_place, behind_block}
-use borrow.Author.Rules.{rules}
 use Rattle.texts.proofs.puts.put_entry.Goals as goal
 
 pub returns : goal.returns

@@ -1,7 +1,6 @@
 -- The text, then the line end. Assumes nothing.
 use native.Mathlib.Omega.{arith}
 use Rattle.lines.proofs.Spellings.{then}
-use borrow.Author.Rules.{rules}
 use Rattle.texts.proofs.puts.spell_line.Goals as goal
 
 pub returns : goal.returns

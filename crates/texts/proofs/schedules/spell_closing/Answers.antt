@@ -3,7 +3,6 @@ use native.Mathlib.Omega.{arith}
 use mathlib.Core.Path.{sym, ap}
 use Rattle.lines.proofs.Spellings.{spelled_as}
 use Rattle.texts.specs.Schedules.{closing_text}
-use borrow.Author.Rules.{rules}
 use Rattle.texts.proofs.schedules.spell_closing.Goals as goal
 
 pub returns-in-Accepted : goal.returns-in-Accepted

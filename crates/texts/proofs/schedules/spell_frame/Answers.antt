@@ -1,7 +1,6 @@
 -- Three numbers, each with its name. Assumes nothing.
 use native.Mathlib.Omega.{arith}
 use Rattle.lines.proofs.Spellings.{then}
-use borrow.Author.Rules.{rules}
 use Rattle.texts.proofs.schedules.spell_frame.Goals as goal
 
 pub returns : goal.returns

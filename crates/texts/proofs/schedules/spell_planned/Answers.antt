@@ -1,7 +1,6 @@
 -- The command words, then the period. Assumes nothing.
 use native.Mathlib.Omega.{arith}
 use Rattle.lines.proofs.Spellings.{then}
-use borrow.Author.Rules.{rules}
 use Rattle.texts.proofs.schedules.spell_planned.Goals as goal
 
 pub returns : goal.returns

@@ -2,7 +2,6 @@
 use native.Mathlib.Omega.{arith}
 use Rattle.lines.proofs.Spellings.{then, spelled_as}
 use Rattle.texts.proofs.Choices.{added_text_lem, added_none, spelled_none}
-use borrow.Author.Rules.{rules}
 use Rattle.texts.proofs.schedules.spell_slot.Goals as goal
 
 pub returns-then-added : goal.returns-then-added

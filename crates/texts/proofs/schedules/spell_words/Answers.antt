@@ -2,7 +2,6 @@
 use native.Mathlib.Omega.{arith}
 use Rattle.lines.proofs.Spellings.{then, spelled_as}
 use Rattle.texts.proofs.Choices.{words_one, words_two}
-use borrow.Author.Rules.{rules}
 use Rattle.texts.proofs.schedules.spell_words.Goals as goal
 
 pub returns-then-message-eq1 : goal.returns-then-message-eq1

@@ -1,7 +1,6 @@
 -- The variant says it. Assumes nothing.
 use mathlib.Core.Path.{sym, ap}
 use Rattle.texts.specs.Logs.{is_good}
-use borrow.Author.Rules.{rules}
 use Rattle.texts.proofs.shows.is_good.Goals as goal
 
 pub returns-in-Given : goal.returns-in-Given

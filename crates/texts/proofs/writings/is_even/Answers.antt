@@ -1,8 +1,5 @@
 -- Those that were looked at are the same, so that the others say whether all are. Assumes nothing.
-use Prim.Native.Nat.{◌-◌, ◌≤◌}
-use mathlib.Core.Path.{◌≡◌, sym, ◌∙◌}
-use lib.ListN.{length, get_or, drop}
-use Rattle.plans.specs.Texts.{are_all}
+use mathlib.Core.Path.{sym, ◌∙◌}
 use Rattle.texts.proofs.Lines.{same_more, same_not, same_all}
 use borrow.Author.Rules.{rules}
 use Rattle.texts.proofs.writings.is_even.Goals as goal

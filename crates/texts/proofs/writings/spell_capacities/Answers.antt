@@ -3,7 +3,6 @@ use native.Mathlib.Omega.{arith}
 use mathlib.Core.Path.{sym, ◌∙◌}
 use Rattle.lines.proofs.Spellings.{spelled_as}
 use Rattle.texts.proofs.Lines.{capacities_even, capacities_each}
-use borrow.Author.Rules.{rules}
 use Rattle.texts.proofs.writings.spell_capacities.Goals as goal
 
 pub returns-then-is_even : goal.returns-then-is_even

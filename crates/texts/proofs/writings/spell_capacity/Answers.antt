@@ -2,7 +2,6 @@
 use native.Mathlib.Omega.{arith}
 use Rattle.lines.proofs.Spellings.{then, spelled_as}
 use Rattle.texts.proofs.Lines.{capacity_line}
-use borrow.Author.Rules.{rules}
 use Rattle.texts.proofs.writings.spell_capacity.Goals as goal
 
 pub returns : goal.returns

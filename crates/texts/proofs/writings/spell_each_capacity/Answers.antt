@@ -1,8 +1,5 @@
 -- Line behind line, each in its place. Assumes nothing.
-use Prim.Native.Nat.{◌-◌}
-use mathlib.Core.Path.{◌≡◌}
-use lib.ListN.{length}
-use Rattle.texts.proofs.Lines.{Capacities, capacities_start, capacities_more, capacities_end}
+use Rattle.texts.proofs.Lines.{capacities_start, capacities_more, capacities_end}
 use native.Mathlib.Omega.{arith}
 use Rattle.lines.proofs.Spellings.{then}
 use Rattle.texts.proofs.Choices.{spelled_none}
@@ -15,7 +12,7 @@ loop-i-init c = (capacities_start _ _ _ _ _ (spelled_none c.spell_text-place.ens
 pub loop-i-preserved : goal.loop-i-preserved
 loop-i-preserved c =
     let loop = c.loop-i in
-    (capacities_more _ _ _ _ _ _ _ _ loop.invariant.1 c.loop-i-test.true loop.invariant.0 c.spell_capacity_of-place.ensures, loop.invariant.1)
+    (capacities_more _ _ _ _ _ _ _ _ loop.invariant.1 c.loop-i-test.true loop.invariant.0 (c.spell_capacity_of-place.ensures.text, c.spell_capacity_of-place.ensures.most), loop.invariant.1)
 
 pub returns : goal.returns
 returns c =

@@ -2,11 +2,7 @@
 use Prim.Native.Nat.{◌-◌}
 use mathlib.Core.Path.{◌≡◌}
 use lib.ListN.{length}
-use Rattle.texts.proofs.Lines.{Capacities, capacities_start, capacities_more, capacities_end}
-use native.Mathlib.Omega.{arith}
-use Rattle.lines.proofs.Spellings.{then}
-use Rattle.texts.proofs.Choices.{spelled_none}
-use borrow.Author.Rules.{rules}
+use Rattle.texts.proofs.Lines.{Capacities}
 use Rattle.texts.proofs.writings.spell_each_capacity.Given as goal
 
 abbrev pub invariant-loop-i : goal.invariant-loop-i

@@ -1,18 +1,13 @@
 -- Line behind line, each in its place, up to the last message. Assumes nothing.
-use Prim.Native.Nat.{◌-◌}
-use mathlib.Core.Path.{◌≡◌}
 use mathlib.Core.Logic.{inl, inr}
-use lib.ListN.{length}
-use Rattle.texts.proofs.Lines.{Messages, messages_start, messages_more, messages_end}
+use Rattle.texts.proofs.Lines.{messages_start, messages_more, messages_end}
 use native.Mathlib.Omega.{arith}
 use Rattle.lines.proofs.Spellings.{then}
-use Rattle.schedule.proofs.Walks.{as_many}
 use Rattle.texts.proofs.Choices.{spelled_none}
-use borrow.Author.Rules.{rules}
 use Rattle.texts.proofs.writings.spell_messages.Goals as goal
 
 pub loop-i-init : goal.loop-i-init
-loop-i-init c = (messages_start _ _ _ _ _ _ _ (spelled_none c.spell_text-place.ensures.text), as_many _ c.args.schedule.messages 64 c.well-formed.1.1.0.1.1.1.0.1.0.1, search rules)
+loop-i-init c = (messages_start _ _ _ _ _ _ _ (spelled_none c.spell_text-place.ensures.text), omega arith, omega arith)
 
 pub returns-then-count-i : goal.returns-then-count-i
 returns-then-count-i c =
@@ -24,7 +19,7 @@ returns-then-count-i c =
 pub loop-i-preserved : goal.loop-i-preserved
 loop-i-preserved c =
     let loop = c.loop-i in
-    (messages_more _ _ _ _ _ _ _ _ _ _ _ loop.invariant.1 loop.invariant.2 c.loop-i-test.true c.if-count-i.false loop.invariant.0 c.spell_placed-place.ensures, loop.invariant.1, loop.invariant.2)
+    (messages_more _ _ _ _ _ _ _ _ _ _ _ loop.invariant.1 loop.invariant.2 c.loop-i-test.true c.if-count-i.false loop.invariant.0 (c.spell_placed-place.ensures.text, c.spell_placed-place.ensures.most), loop.invariant.1, loop.invariant.2)
 
 pub returns : goal.returns
 returns c =

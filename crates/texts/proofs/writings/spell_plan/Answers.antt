@@ -1,7 +1,6 @@
 -- The capacities, then the messages. Assumes nothing.
 use Rattle.lines.proofs.Spellings.{then}
 use Rattle.plans.specs.Texts.{plan_text}
-use borrow.Author.Rules.{rules}
 use Rattle.texts.proofs.writings.spell_plan.Goals as goal
 
 pub returns : goal.returns

@@ -1,5 +1,4 @@
 -- The address is that of the definition. Assumes nothing.
-use borrow.Author.Rules.{rules}
 use Rattle.texts.proofs.shows.Wanted.concerns.Goals as goal
 
 pub returns : goal.returns

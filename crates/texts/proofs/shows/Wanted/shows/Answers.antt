@@ -1,7 +1,6 @@
 -- A message, or a record outside any. Assumes nothing.
 use mathlib.Core.Path.{sym, ap, ◌∙◌}
 use Rattle.texts.specs.Logs.{is_shown}
-use borrow.Author.Rules.{rules}
 use Rattle.texts.proofs.shows.Wanted.shows.Goals as goal
 
 pub returns-in-Message : goal.returns-in-Message

@@ -1,5 +1,4 @@
 -- The tests one by one. Assumes nothing.
-use borrow.Author.Rules.{rules}
 use Rattle.texts.proofs.shows.Wanted.shows_single.Goals as goal
 
 pub returns : goal.returns
