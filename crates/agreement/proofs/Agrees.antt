@@ -144,7 +144,7 @@ module _ (s : State) (sound : Sound s) (t : ℕ) (transmit : List ℕ) (due : is
     judged_as single heard verdict =
         let waiting = waits s sound t due in
         record {
-          not_refused_lem = single_taken s sound t due until single clock (omega (arith, heard));
+          unrefused = single_taken s sound t due until single clock (omega (arith, heard));
           accepted = answer_taken (plan_for s until) waiting.bus clock s.message.last.0 (status_now s) words (omega (arith, heard));
           judged = verdict_of_lem (plan_for s until) (part_of w) (single_expects s until not_broadcast) (answer_heard answer) ∙ verdict;
         }
@@ -213,7 +213,7 @@ module _ (s : State) (sound : Sound s) (t : ℕ) (transmit : List ℕ) (due : is
       let waiting = waits s sound t due in
       let later = sent_later s second status ds sent in
       record {
-        not_refused_lem = pair_taken s sound t due second status ds sent until clock (omega (arith, later, listened));
+        unrefused = pair_taken s sound t due second status ds sent until clock (omega (arith, later, listened));
         accepted = sent_taken s second status ds sent until (answer_heard a) waiting.bus clock (omega (arith, listened))
             (answer_taken (plan_between s second until) waiting.bus clock s.message.last.0 (status_now s) (take a.count a.words)
             (omega (arith, ap length no_words_lem, listened)));
@@ -260,7 +260,7 @@ agrees_broadcast s t transmit all until listened = record {
       (λ (f : Finding).
       cond (eqb (plan_refusal (plan_for s until)) not_refused) (judged.Given f) (judged.Refused (record { 0 = plan_refusal (plan_for s until) })))
       (none_good s until all listened);
-  not_refused_lem = λ sound due single clock. single_taken s sound t due until single clock (omega (arith, listened));
+  unrefused = λ sound due single clock. single_taken s sound t due until single clock (omega (arith, listened));
 }
 
 -- between terminals the transmitter's part is all
@@ -282,7 +282,7 @@ agrees_broadcast_between s sound t transmit due all second status ds sent until 
     sent_taken s second status ds sent until [] (waits s sound t due).bus clock (omega (arith, listened)) tt in (
       none_answered s t transmit all,
       record {
-        not_refused_lem = pair_taken s sound t due second status ds sent until clock (omega (arith, later, listened));
+        unrefused = pair_taken s sound t due second status ds sent until clock (omega (arith, later, listened));
         accepted = subst (λ (l : List WordRecord). Accepted (plan_between s second until) second.time.0 (status ∷ l)) (append-nil ds) taken;
         judged = all_good s second status ds sent until all listened;
       },

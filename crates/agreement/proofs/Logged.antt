@@ -81,7 +81,7 @@ whole_logged bus c rest verdict whole front after behind begins records closed =
     let file : heard_on bus 0 (front ++ (c ∷ after)) ≡ heard_on bus 0 front ++ (p ∷ qs) =
     heard_append bus (c ∷ after) front 0
     ∙ ap (λ (n : ℕ). heard_on bus 0 front ++ heard_on bus n (c ∷ after)) {x = 0 + place} {y = place} (omega arith)
-    ∙ ap (λ (l : List Placed). heard_on bus 0 front ++ l) (heard_command bus place c after whole.own_val) in
+    ∙ ap (λ (l : List Placed). heard_on bus 0 front ++ l) (heard_command bus place c after whole.own) in
     let split = begins_of end (end_time (record { 0 = 0 }) front) p qs (heard_on bus 0 front) begins in
     let joined = joined_groups end place c rest [] behind qs (heards_on bus (suc place) after ∙ records) whole.joins in
     let ends = closed_groups c rest whole.command end place whole.other whole.told joined.0 behind joined.1 closed in

@@ -70,7 +70,7 @@ Accepted plan before (r ∷ rs) = (in_range last_bus r ≡ true) × (record_refu
 
 -- The plan is not refused, nor is a record, and that is the verdict.
 pub record JudgedAs (plan : Plan) (returned : List WordRecord) (verdict : ℕ) : Type 0 where
-  pub not_refused_lem : plan_refusal plan ≡ not_refused
+  pub unrefused : plan_refusal plan ≡ not_refused
   pub accepted : Accepted plan plan.last.0 returned
   pub judged : verdict_of plan returned ≡ verdict
 
@@ -166,7 +166,7 @@ pub record Unanswered (s : State) (t : ℕ) (transmit : List ℕ) (until : Momen
   pub silent : rule1_answer s t transmit ≡ no_answer
   pub judged : judged_of (plan_for s until) []
       ≡ cond (eqb (plan_refusal (plan_for s until)) not_refused) (judged.Given (finding good 0)) (judged.Refused (record { 0 = plan_refusal (plan_for s until) }))
-  pub not_refused_lem : Sound s → is_due s.message t ≡ true → is_single s.message.command.0 ≡ true → on_clock until.0 ≡ true
+  pub unrefused : Sound s → is_due s.message t ≡ true → is_single s.message.command.0 ≡ true → on_clock until.0 ≡ true
       → plan_refusal (plan_for s until) ≡ not_refused
 
 -- agrees_broadcast

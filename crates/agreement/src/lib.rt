@@ -2,4 +2,3 @@
 // whole messages it is one entry, judged so. No code: the statements are in specs/, over the definitions that the contracts of `terminal`, `verdict` and
 // `monitor` cite, and their proofs in proofs/.
 #![tactic(auto)]
-
