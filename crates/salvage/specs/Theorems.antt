@@ -184,7 +184,7 @@ abbrev pub FirstStays : Type 0
 FirstStays = (front rest : List ℕ) → 0 < length front → first_in (front ++ rest) ≡ first_in front
 
 -- Asked while 16 bytes or more wait, it leaves fewer; with a room of 16 bytes or more and fewer than 16 that wait, it takes at least one byte of a
--- chunk that is not empty: goes-on
+-- chunk that is not empty: goes_on_lem
 pub record Advances (c : Session) : Type 0 where
   pub asked : is_settled_of c.salvage ≡ false
       → (asked_of c.salvage c.room).salvage.window.to - (asked_of c.salvage c.room).salvage.window.from < c.salvage.window.to - c.salvage.window.from

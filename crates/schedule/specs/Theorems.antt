@@ -75,7 +75,7 @@ EmptyAccepted =
     → (firsts capacities : List ℕ) → length capacities ≡ frames_all
     → check_of schedule firsts capacities ≡ Accepted
 
--- What is accepted is accepted too at capacities each of which is at least as large: more-room
+-- What is accepted is accepted too at capacities each of which is at least as large: more_room
 abbrev pub MoreRoom : Type 0
 MoreRoom =
     (schedule : Schedule) (firsts capacities wider : List ℕ) → length capacities ≡ frames_all → length wider ≡ frames_all
@@ -135,7 +135,7 @@ OnceAPeriod =
 
 -- ---- schedules as they are made
 
--- A message more stands behind the others, up to 64; a schedule with one more than that is refused, and with any more: one-more
+-- A message more stands behind the others, up to 64; a schedule with one more than that is refused, and with any more: one_more_lem
 abbrev pub OneMore : Type 0
 OneMore =
     (schedule : Schedule) (message : Message) → length schedule.messages ≡ messages_most
