@@ -12,8 +12,8 @@ use std::os::fd::{AsRawFd, IntoRawFd};
 // Begins a sentence on standard error: "PROGRAM: NAME", with no line end.
 // Tables: program and name are only read. Refusals: none.
 pub fn begin_complaint(program: &[u8], name: &[u8])
-    ensures program { program.now ≡ program.now }
-    ensures name { name.now ≡ name.now }
+    ensures program { program.exit.now ≡ program.entry.now }
+    ensures name { name.exit.now ≡ name.entry.now }
 {
     let mut block = io::large_buffer();
     Sink::to(Target::Errors)
@@ -36,8 +36,8 @@ fn words_end(text: &[u8]) -> usize
 // Says what failed, with the system's reason, by its number: "PROGRAM: NAME: REASON".
 // Tables: program and name are only read. Refusals: none.
 pub fn complain(program: &[u8], name: &[u8], why: i32)
-    ensures program { program.now ≡ program.now }
-    ensures name { name.now ≡ name.now }
+    ensures program { program.exit.now ≡ program.entry.now }
+    ensures name { name.exit.now ≡ name.entry.now }
 {
     let mut reason = Cursor::new([0u8; 128]);
     let _ = write!(reason, ": {}", Error::from_raw_os_error(why));
@@ -48,9 +48,9 @@ pub fn complain(program: &[u8], name: &[u8], why: i32)
 // Says something of a file, as ": not whole": "PROGRAM: NAME: not whole".
 // Tables: program, name and what are only read. Refusals: none.
 pub fn remark(program: &[u8], name: &[u8], what: &[u8])
-    ensures program { program.now ≡ program.now }
-    ensures name { name.now ≡ name.now }
-    ensures what { what.now ≡ what.now }
+    ensures program { program.exit.now ≡ program.entry.now }
+    ensures name { name.exit.now ≡ name.entry.now }
+    ensures what { what.exit.now ≡ what.entry.now }
 {
     begin_complaint(program, name);
     io::write_all(ERRORS, what);

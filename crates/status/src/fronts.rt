@@ -107,7 +107,7 @@ impl Front {
     // Ends a run: writes the digit, where it is asked for, as the tool's last act.
     // Tables: program is only read. Refusals: none.
     pub fn end(self, rt: HostRuntime, program: &[u8], status: Status)
-        ensures program { program.now ≡ program.now }
+        ensures program { program.exit.now ≡ program.entry.now }
     {
         if !self.told {
             return;
