@@ -12,7 +12,7 @@ NothingLost =
     (block text : List ℕ) (at : ℕ) → length block ≡ block_bytes
     → goes_out block at text ++ take (place_after at (length text)) (block_after block at text) ≡ take at block ++ text
 
--- The same of a line for which room is asked once: line-kept
+-- The same of a line for which room is asked once: line_kept
 abbrev pub LineKept : Type 0
 LineKept =
     (block text : List ℕ) (at : ℕ) → length block ≡ block_bytes → length text ≤ line_most
@@ -32,14 +32,14 @@ ShownPlain = (byte : ℕ) → leb 32 (shown_of byte) && not (eqb (shown_of byte)
 abbrev pub DecimalBack : Type 0
 DecimalBack = (n : ℕ) → n < 2 ^ 64 → number_read (decimal_text n) ≡ Is n
 
--- The four capitals of a word, read as so many, are the word: word-back
+-- The four capitals of a word, read as so many, are the word: word_back
 abbrev pub WordBack : Type 0
 WordBack = (word : ℕ) → word < 2 ^ 16 → hexadecimal_read (word_text word) 4 ≡ Is word
 
--- Texts that are told to be the same are equal: same-text
+-- Texts that are told to be the same are equal: same_text_lem
 abbrev pub SameText : Type 0
 SameText = (text wanted : List ℕ) → same_text text wanted ≡ true → text ≡ wanted
 
--- A text is told to be the same as itself: text-same
+-- A text is told to be the same as itself: text_same
 abbrev pub TextSame : Type 0
 TextSame = (text : List ℕ) → same_text text text ≡ true

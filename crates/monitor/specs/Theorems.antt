@@ -96,7 +96,7 @@ pub record Gives (s : Side) (us : List ℕ) : Type 0 where
   pub found : (e : Logged) × (s.found ≡ found.Entry e)
   pub given : left_of (given_of s) us < left_of s us
 
--- Each call that `choose` asks for lessens what is left of its side: goes-on
+-- Each call that `choose` asks for lessens what is left of its side: goes_on_lem
 pub record Advances (a : Side) (us : List ℕ) (b : Side) (vs : List ℕ) : Type 0 where
   pub first_fed : choice_of (ready_of a) (ready_of b) ≡ FeedFirst → Feeds a us
   pub second_fed : choice_of (ready_of a) (ready_of b) ≡ FeedSecond → Feeds b vs
@@ -201,7 +201,7 @@ Each P (x ∷ xs) = P x × Each P xs
 abbrev pub BeginsAt : List WordRecord → Group → Type 0
 BeginsAt rs g = (after : List WordRecord) × (drop g.place rs ≡ g.first ∷ after)
 
--- in-order
+-- in_order
 abbrev pub InOrder : Type 0
 InOrder = (rs : List WordRecord) → Rise 0 (log_of rs) × ((bus : ℕ) → Each (BeginsAt rs) (groups_on bus rs))
 
@@ -241,7 +241,7 @@ VerdictOfTheRules = (rs : List WordRecord) → Written 0 rs → (bus : ℕ) → 
 
 -- ---- two facts that make the definitions plain
 
--- A word that fits as the second command is never one whose status is expected: which of the two is tried first changes no entry: never-both
+-- A word that fits as the second command is never one whose status is expected: which of the two is tried first changes no entry: never_both
 abbrev pub NeverBoth : Type 0
 NeverBoth = (first : WordRecord) (rest : List WordRecord) (r : WordRecord) → (length rest == 0 && is_second first r) ≡ true → expects first rest r ≡ false
 

@@ -29,7 +29,7 @@ AllFit last (r ∷ rs) = Fits last r × AllFit last rs
 abbrev pub ReadWritten : Type 0
 ReadWritten = (last : ℕ) (r : WordRecord) (after : List ℕ) → Fits last r → read_of last (form_of r ++ after) ≡ Record r
 
--- Writing such a record where there is room is not refused, is read back, and leaves all bytes behind the first 16: write-read
+-- Writing such a record where there is room is not refused, is read back, and leaves all bytes behind the first 16: write_read
 abbrev pub WriteRead : Type 0
 WriteRead =
     (r : WordRecord) (bytes : List ℕ) → Fits last_bus r → record_bytes ≤ length bytes
@@ -41,11 +41,11 @@ WriteRead =
 abbrev pub OnlyForm : Type 0
 OnlyForm = (last : ℕ) (bytes : List ℕ) (r : WordRecord) → Bytes bytes → read_of last bytes ≡ Record r → take 16 bytes ≡ form_of r
 
--- What is read fits, so what is read with the last bus of a record in no file can be written: read-fits
+-- What is read fits, so what is read with the last bus of a record in no file can be written: read_fits
 abbrev pub ReadFits : Type 0
 ReadFits = (last : ℕ) (bytes : List ℕ) (r : WordRecord) → Bytes bytes → read_of last bytes ≡ Record r → Fits last r
 
--- So no two byte forms are read as one record: one-form
+-- So no two byte forms are read as one record: one_form
 abbrev pub OneForm : Type 0
 OneForm =
     (last : ℕ) (bytes others : List ℕ) (r : WordRecord) → Bytes bytes → Bytes others → read_of last bytes ≡ Record r → read_of last others ≡ Record r
