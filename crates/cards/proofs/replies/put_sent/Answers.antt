@@ -1,0 +1,18 @@
+-- `put_sent` is safe and ends: the measure is what is left of the count. Assumes nothing.
+use Rattle.std.proofs.Common.{◌-◌, rules}
+use Rattle.cards.proofs.replies.put_sent.Goals as goal
+
+pub loop-i-init : goal.loop-i-init
+loop-i-init c = tt
+
+pub put-after-requires : goal.put-after-requires
+put-after-requires c = tt
+
+pub put_word-after-requires : goal.put_word-after-requires
+put_word-after-requires c = tt
+
+pub loop-i-preserved : goal.loop-i-preserved
+loop-i-preserved c = tt
+
+pub returns : goal.returns
+returns c = tt
