@@ -2,8 +2,5 @@
 use Rattle.std.proofs.Common.{mod-lt, rules}
 use Rattle.soak.proofs.draws.draw.Goals as goal
 
-pub next-requires : goal.next-requires
-next-requires c = tt
-
 pub returns : goal.returns
 returns c = mod-lt _ (search rules)
