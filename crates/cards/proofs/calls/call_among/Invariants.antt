@@ -1,5 +1,5 @@
 -- `call_among` is safe and ends: the measure is what is left of the forms. Assumes nothing.
-use Rattle.std.proofs.Common.{◌-◌, length, rules}
+use Rattle.std.proofs.Common.{◌-◌, length}
 use Rattle.cards.proofs.calls.call_among.Given as goal
 
 abbrev pub invariant-loop-i : goal.invariant-loop-i

@@ -1,5 +1,5 @@
 -- `is_named` is safe and ends: the measure is what is left of the nine letters. Assumes nothing.
-use Rattle.std.proofs.Common.{◌-◌, rules}
+use Rattle.std.proofs.Common.{◌-◌}
 use Rattle.cards.proofs.calls.is_named.Given as goal
 
 abbrev pub invariant-loop-i : goal.invariant-loop-i

@@ -1,5 +1,5 @@
 -- `numbers_of` is safe and ends: the measure is what is left of the seven letters. Assumes nothing.
-use Rattle.std.proofs.Common.{◌-◌, rules}
+use Rattle.std.proofs.Common.{◌-◌}
 use Rattle.cards.proofs.calls.numbers_of.Given as goal
 
 abbrev pub invariant-loop-i : goal.invariant-loop-i

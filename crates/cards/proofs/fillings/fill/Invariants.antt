@@ -1,5 +1,5 @@
 -- `fill` is safe and ends: the buffer keeps its length, and the measure is what is left of the text. Assumes nothing.
-use Rattle.std.proofs.Common.{◌≡◌, ◌-◌, length, rules}
+use Rattle.std.proofs.Common.{◌≡◌, ◌-◌, length}
 use Rattle.cards.proofs.fillings.fill.Given as goal
 
 abbrev pub invariant-loop-i : goal.invariant-loop-i

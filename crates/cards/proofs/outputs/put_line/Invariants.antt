@@ -1,5 +1,5 @@
 -- `put_line` is safe and ends: the measure is what is left of the line. Assumes nothing.
-use Rattle.std.proofs.Common.{◌-◌, length, rules}
+use Rattle.std.proofs.Common.{◌-◌, length}
 use Rattle.cards.proofs.outputs.put_line.Given as goal
 
 abbrev pub invariant-loop-i : goal.invariant-loop-i

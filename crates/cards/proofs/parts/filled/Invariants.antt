@@ -1,5 +1,5 @@
 -- `filled` is safe and ends: the end stays within the text, and is the measure. Assumes nothing.
-use Rattle.std.proofs.Common.{◌≤◌, length, rules}
+use Rattle.std.proofs.Common.{◌≤◌, length}
 use Rattle.cards.proofs.parts.filled.Given as goal
 
 abbrev pub invariant-loop-end : goal.invariant-loop-end

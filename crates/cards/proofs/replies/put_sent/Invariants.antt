@@ -1,5 +1,5 @@
 -- `put_sent` is safe and ends: the measure is what is left of the count. Assumes nothing.
-use Rattle.std.proofs.Common.{◌-◌, rules}
+use Rattle.std.proofs.Common.{◌-◌}
 use Rattle.cards.proofs.replies.put_sent.Given as goal
 
 abbrev pub invariant-loop-i : goal.invariant-loop-i

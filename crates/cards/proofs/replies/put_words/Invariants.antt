@@ -1,5 +1,5 @@
 -- `put_words` is safe and ends: the measure is what is left of the words. Assumes nothing.
-use Rattle.std.proofs.Common.{◌-◌, length, rules}
+use Rattle.std.proofs.Common.{◌-◌, length}
 use Rattle.cards.proofs.replies.put_words.Given as goal
 
 abbrev pub invariant-loop-i : goal.invariant-loop-i

@@ -1,5 +1,5 @@
 -- `next_line` is safe and ends: the measure is what is left of the text. Assumes nothing.
-use Rattle.std.proofs.Common.{◌-◌, length, rules}
+use Rattle.std.proofs.Common.{◌-◌, length}
 use Rattle.cards.proofs.usages.next_line.Given as goal
 
 abbrev pub invariant-loop-end : goal.invariant-loop-end

@@ -1,5 +1,5 @@
 -- `put_forms` is safe and ends: the measure is what is left of the lines. Assumes nothing.
-use Rattle.std.proofs.Common.{◌-◌, rules}
+use Rattle.std.proofs.Common.{◌-◌}
 use Rattle.cards.proofs.usages.put_forms.Given as goal
 
 abbrev pub invariant-loop-i : goal.invariant-loop-i
