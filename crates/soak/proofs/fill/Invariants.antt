@@ -1,5 +1,5 @@
 -- `fill` is safe and ends: the measure is what is left of the 1,024 places. Assumes nothing.
-use Rattle.std.proofs.Common.{◌-◌, rules}
+use Rattle.std.proofs.Common.{◌-◌}
 use Rattle.soak.proofs.fill.Given as goal
 
 abbrev pub invariant-loop-i : goal.invariant-loop-i

@@ -1,5 +1,5 @@
 -- `run` is safe and ends: the measure is what is left of the calls. Assumes nothing.
-use Rattle.std.proofs.Common.{◌-◌, rules}
+use Rattle.std.proofs.Common.{◌-◌}
 use Rattle.soak.proofs.run.Given as goal
 
 abbrev pub invariant-loop-number : goal.invariant-loop-number

@@ -1,5 +1,5 @@
 -- `make_masks` is safe and ends: the measure is what is left of the 64 masks. Assumes nothing.
-use Rattle.std.proofs.Common.{◌-◌, rules}
+use Rattle.std.proofs.Common.{◌-◌}
 use Rattle.soak.proofs.benches.make_masks.Given as goal
 
 abbrev pub invariant-loop-i : goal.invariant-loop-i

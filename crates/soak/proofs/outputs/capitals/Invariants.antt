@@ -1,5 +1,5 @@
 -- `capitals` is safe and ends: the measure is the number of places left, at most 16. Assumes nothing.
-use Rattle.std.proofs.Common.{◌≤◌, rules}
+use Rattle.std.proofs.Common.{◌≤◌}
 use Rattle.soak.proofs.outputs.capitals.Given as goal
 
 abbrev pub invariant-loop-i : goal.invariant-loop-i

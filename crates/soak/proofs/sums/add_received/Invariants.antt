@@ -1,5 +1,5 @@
 -- `add_received` is safe and ends: the measure is what is left of the 1,024 places. Assumes nothing.
-use Rattle.std.proofs.Common.{◌-◌, rules}
+use Rattle.std.proofs.Common.{◌-◌}
 use Rattle.soak.proofs.sums.add_received.Given as goal
 
 abbrev pub invariant-loop-i : goal.invariant-loop-i

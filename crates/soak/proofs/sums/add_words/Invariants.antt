@@ -1,5 +1,5 @@
 -- `add_words` is safe and ends: the measure is what is left of the count. Assumes nothing.
-use Rattle.std.proofs.Common.{◌-◌, rules}
+use Rattle.std.proofs.Common.{◌-◌}
 use Rattle.soak.proofs.sums.add_words.Given as goal
 
 abbrev pub invariant-loop-i : goal.invariant-loop-i
