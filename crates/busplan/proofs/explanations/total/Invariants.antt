@@ -1,5 +1,5 @@
 -- `total` is safe and ends: the measure is what is left of the numbers. Assumes nothing.
-use Rattle.std.proofs.Common.{◌-◌, rules}
+use Rattle.std.proofs.Common.{◌-◌}
 use Rattle.busplan.proofs.explanations.total.Given as goal
 
 abbrev pub invariant-loop-i : goal.invariant-loop-i

@@ -1,5 +1,5 @@
 -- `put_slots` is safe and ends: the measure is what is left of the messages. Assumes nothing.
-use Rattle.std.proofs.Common.{◌-◌, rules}
+use Rattle.std.proofs.Common.{◌-◌}
 use Rattle.busplan.proofs.outputs.put_slots.Given as goal
 
 abbrev pub invariant-loop-i : goal.invariant-loop-i

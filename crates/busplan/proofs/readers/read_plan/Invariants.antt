@@ -1,5 +1,5 @@
 -- `read_plan` is safe and ends: the chunk keeps its length, and the measure is the number of turns that are left. Assumes nothing.
-use Rattle.std.proofs.Common.{◌≡◌, length, rules}
+use Rattle.std.proofs.Common.{◌≡◌, length}
 use Rattle.busplan.proofs.readers.read_plan.Given as goal
 
 abbrev pub invariant-loop-turns : goal.invariant-loop-turns

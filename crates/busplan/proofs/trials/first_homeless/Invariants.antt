@@ -1,5 +1,5 @@
 -- `first_homeless` is safe and ends: the measure is what is left of the messages. Assumes nothing.
-use Rattle.std.proofs.Common.{◌-◌, rules}
+use Rattle.std.proofs.Common.{◌-◌}
 use Rattle.busplan.proofs.trials.first_homeless.Given as goal
 
 abbrev pub invariant-loop-i : goal.invariant-loop-i

@@ -1,5 +1,5 @@
 -- `has_place` is safe and ends: the measure is what is left of the first frames. Assumes nothing.
-use Rattle.std.proofs.Common.{◌-◌, rules}
+use Rattle.std.proofs.Common.{◌-◌}
 use Rattle.busplan.proofs.trials.has_place.Given as goal
 
 abbrev pub invariant-loop-first : goal.invariant-loop-first
