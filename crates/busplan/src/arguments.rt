@@ -1,7 +1,7 @@
 // What the arguments ask (docs/LINES.md, busplan). Refusals: none; a wrong argument is said on standard error, and then nothing else is done.
 use crate::complaints::PROGRAM;
 use lines::{NAME_BYTES, is_dash, is_same, remark};
-use status::{is_name, is_option};
+use status::{ask, count_arguments, is_name, is_option};
 use std::num::wrapping_add_usize;
 
 // a place that no argument has
@@ -65,8 +65,8 @@ fn argument_of(text: &[u8]) -> Argument {
 }
 
 // Says whether the argument at a place names a file that can be made. Where it does not, standard error says why.
-fn is_new_name(place: usize) -> bool {
-    if os::arg_count() <= place {
+fn is_new_name(rt: HostRuntime, place: usize) -> bool {
+    if count_arguments(rt) <= place {
         remark(
             &PROGRAM,
             b"-o",
@@ -75,11 +75,11 @@ fn is_new_name(place: usize) -> bool {
         return false;
     }
     let mut name = [0u8; NAME_BYTES];
-    let length = os::arg(place, &mut name);
-    if !is_name(&PROGRAM, b"OUT", length) {
+    let asked = ask(rt, place, &mut name);
+    if !is_name(&PROGRAM, b"OUT", asked) {
         return false;
     }
-    if is_dash(&name[..length]) {
+    if is_dash(&name[..asked.length]) {
         remark(
             &PROGRAM,
             b"OUT",
@@ -122,12 +122,12 @@ impl Options {
         Step::More(next)
     }
 
-    fn take_out(self) -> Step {
+    fn take_out(self, rt: HostRuntime) -> Step {
         if self.out != NO_PLACE {
             return refuse(b"-o", b" is given twice");
         }
         let place = self.after(1).at;
-        if !is_new_name(place) {
+        if !is_new_name(rt, place) {
             return Step::Wrong;
         }
         let mut next = self.after(2);
@@ -136,12 +136,12 @@ impl Options {
     }
 
     // Takes the argument behind those that were looked at.
-    fn step(self) -> Step {
+    fn step(self, rt: HostRuntime) -> Step {
         let mut text = [0u8; NAME_BYTES];
-        let length = os::arg(self.at, &mut text);
+        let length = ask(rt, self.at, &mut text).length;
         match argument_of(&text[..length]) {
             Argument::InWords => self.take_in_words(),
-            Argument::Out => self.take_out(),
+            Argument::Out => self.take_out(rt),
             Argument::Help => Step::Help,
             Argument::Last => Step::File(self.after(1)),
             Argument::File => Step::File(self),
@@ -153,8 +153,8 @@ impl Options {
     }
 
     // Gives the call with these options: one argument must be left, the name of the plan.
-    fn with_file(self) -> Call {
-        if os::arg_count() == self.after(1).at {
+    fn with_file(self, rt: HostRuntime) -> Call {
+        if count_arguments(rt) == self.after(1).at {
             return Call::Plan(self);
         }
         Call::Unclear
@@ -162,16 +162,16 @@ impl Options {
 }
 
 // Reads the arguments from a place on. Each step takes one, so that there are no more steps than arguments.
-pub(crate) fn read_call(first: usize) -> Call {
+pub(crate) fn read_call(rt: HostRuntime, first: usize) -> Call {
     let mut options = Options::start(first);
-    let mut left = os::arg_count();
+    let mut left = count_arguments(rt);
     while left > 0 {
-        match options.step() {
+        match options.step(rt) {
             Step::More(next) => {
                 options = next;
             }
             Step::File(next) => {
-                return next.with_file();
+                return next.with_file(rt);
             }
             Step::Help => {
                 return Call::Help;

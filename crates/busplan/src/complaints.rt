@@ -1,8 +1,7 @@
 // The program's name, with which all begins that it says on standard error, its sentences, where something is and what is wrong with
 // it, and the usage. Refusals: none.
 use crate::flaws::put_flaw;
-use libc::STDERR_FILENO;
-use lines::{Block, Sink, begin_complaint};
+use lines::{Block, Sink, Target, begin_complaint};
 use plans::Fault;
 use schedule::Message;
 use status::Status;
@@ -10,8 +9,9 @@ use status::Status;
 pub(crate) const PROGRAM: [u8; 7] = *b"busplan";
 
 // Writes what the program does and how it is called, where that was asked for or it was called wrongly.
-pub(crate) fn show_usage(asked: bool) -> Status {
+pub(crate) fn show_usage(rt: HostRuntime, asked: bool) -> Status {
     status::show_usage(
+        rt,
         &PROGRAM,
         b"busplan - check a schedule of messages over 64 minor frames, or propose the first frames of one
 usage: bus plan [-v] [-o OUT] [--] FILE      FILE: - is standard input
@@ -32,7 +32,7 @@ example: bus plan season.plan >season.lines && echo it holds
 // Begins a sentence of a file: "busplan: NAME".
 fn begin(name: &[u8]) -> Sink {
     begin_complaint(&PROGRAM, name);
-    Sink::to(STDERR_FILENO)
+    Sink::to(Target::Errors)
 }
 
 // Begins a sentence of a message: "busplan: NAME: message 4 on line 7".

@@ -17,33 +17,34 @@ use arguments::{Call, Options, read_call};
 use complaints::{PROGRAM, show_usage};
 use lines::NAME_BYTES;
 use runs::plan;
-use status::{Begun, Status, is_name};
+use status::{Begun, Status, ask, is_name};
 
 // Checks or proposes the schedule of the file that the arguments name. Where they ask for no new file, its name has no byte.
-fn plan_named(options: Options) -> Status {
+fn plan_named(rt: HostRuntime, options: Options) -> Status {
     let mut name = [0u8; NAME_BYTES];
-    let length = os::arg(options.at, &mut name);
-    if !is_name(&PROGRAM, b"FILE", length) {
+    let asked = ask(rt, options.at, &mut name);
+    if !is_name(&PROGRAM, b"FILE", asked) {
         return Status::Usage;
     }
     let mut out = [0u8; NAME_BYTES];
-    let named = os::arg(options.out, &mut out);
-    Status::of(plan(&name[..length], &out[..named], options.in_words))
+    let named = ask(rt, options.out, &mut out).length;
+    let name = &name[..asked.length];
+    Status::of(plan(rt, name, &out[..named], options.in_words))
 }
 
 // Does what the arguments from a place on ask, and gives how that ended.
-fn run(first: usize) -> Status {
-    match read_call(first) {
-        Call::Help => show_usage(true),
-        Call::Unclear => show_usage(false),
+fn run(rt: HostRuntime, first: usize) -> Status {
+    match read_call(rt, first) {
+        Call::Help => show_usage(rt, true),
+        Call::Unclear => show_usage(rt, false),
         Call::Wrong => Status::Usage,
-        Call::Plan(options) => plan_named(options),
+        Call::Plan(options) => plan_named(rt, options),
     }
 }
 
-fn main() {
-    match status::begin(&PROGRAM) {
-        Begun::On(front) => front.end(&PROGRAM, run(front.first)),
-        Begun::Over(front, ended) => front.end(&PROGRAM, ended),
+fn main(rt: HostRuntime) {
+    match status::begin(rt, &PROGRAM) {
+        Begun::On(front) => front.end(rt, &PROGRAM, run(rt, front.first)),
+        Begun::Over(front, ended) => front.end(rt, &PROGRAM, ended),
     }
 }

@@ -1,8 +1,7 @@
 // The lines that the program writes (02 j; docs/LINES.md). Each function that writes says whether standard output took it; where it did not, standard error has said why.
 // Refusals: none.
 use crate::complaints::PROGRAM;
-use libc::STDOUT_FILENO;
-use lines::{Block, Sink};
+use lines::{Block, Sink, Target};
 use schedule::{Frames, Schedule};
 use texts::{Closing, put_closing, put_frame, put_slot};
 
@@ -13,16 +12,16 @@ fn is_flushed(listed: Sink, block: &Block) -> bool {
 }
 
 // Writes the line that says how it ended.
-pub(crate) fn write_closing(closing: Closing) -> bool {
+pub(crate) fn write_closing(rt: HostRuntime, closing: Closing) -> bool {
     let mut block = io::large_buffer();
-    let listed = put_closing(Sink::to(STDOUT_FILENO), &mut block, closing);
+    let listed = put_closing(Sink::to(Target::Output(rt.stdout())), &mut block, closing);
     is_flushed(listed, &block)
 }
 
 // Writes a line that ends in a name: "# error NAME".
-pub(crate) fn write_named(begin: &[u8], name: &[u8]) -> bool {
+pub(crate) fn write_named(rt: HostRuntime, begin: &[u8], name: &[u8]) -> bool {
     let mut block = io::large_buffer();
-    let listed = Sink::to(STDOUT_FILENO).put_named(&mut block, begin, name);
+    let listed = Sink::to(Target::Output(rt.stdout())).put_named(&mut block, begin, name);
     is_flushed(listed, &block)
 }
 
@@ -58,6 +57,7 @@ fn put_frames(sink: Sink, block: &mut Block, loads: &Frames, capacities: &Frames
 
 // Writes all messages, then all frames.
 pub(crate) fn write_schedule(
+    rt: HostRuntime,
     in_words: bool,
     schedule: Schedule,
     firsts: &Frames,
@@ -66,7 +66,7 @@ pub(crate) fn write_schedule(
     let mut block = io::large_buffer();
     let mut loads = [0u64; 64];
     schedule.loads(firsts, &mut loads);
-    let sink = Sink::to(STDOUT_FILENO);
+    let sink = Sink::to(Target::Output(rt.stdout()));
     let listed = put_slots(sink, &mut block, in_words, schedule, firsts);
     let framed = put_frames(listed, &mut block, &loads, capacities);
     is_flushed(framed, &block)

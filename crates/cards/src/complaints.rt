@@ -4,8 +4,9 @@ use status::Status;
 pub(crate) const PROGRAM: [u8; 5] = *b"cards";
 
 // Writes what the program does and how it is called, where that was asked for or it was called wrongly.
-pub(crate) fn show_usage(asked: bool) -> Status {
+pub(crate) fn show_usage(rt: HostRuntime, asked: bool) -> Status {
     status::show_usage(
+        rt,
         &PROGRAM,
         b"cards - play a bench script on the card's logic
 usage: bus cards      the script is standard input

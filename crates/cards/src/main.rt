@@ -22,20 +22,18 @@ mod verdicts;
 
 use benches::{Buffer, Table};
 use complaints::{PROGRAM, show_usage};
-use libc::STDIN_FILENO;
-use lines::{Block, complain};
+use lines::{Block, Source, complain};
 use scripts::{Line, Run, run_block};
-use status::{Begun, Status, asks_help};
+use status::{Begun, Status, asks_help, count_arguments};
 
-// Says on standard error that a read failed, where it did.
-fn tell_unread(failed: bool) {
-    if failed {
-        complain(&PROGRAM, b"standard input");
-    }
+// Says on standard error that a read failed, by the system's number for it.
+fn tell_unread(why: i32) {
+    complain(&PROGRAM, b"standard input", why);
 }
 
 // Reads one block and runs its lines. Keeping the loop out of it keeps what the buffer holds out of the loop's invariant.
 fn read_block(
+    rt: HostRuntime,
     run: Run,
     line: &mut Line,
     receive: &mut Table,
@@ -44,27 +42,32 @@ fn read_block(
     out: &mut Block,
 ) -> Run {
     let mut block = io::large_buffer();
-    let got = libc::read(STDIN_FILENO, &mut block);
-    if got <= 0 {
-        tell_unread(got < 0);
-        return run.read(got < 0);
+    let count = match Source::Input(rt.stdin()).read(&mut block) {
+        Ok(count) => count,
+        Err(why) => {
+            tell_unread(why);
+            return run.read(true);
+        }
+    };
+    if count == 0 {
+        return run.read(false);
     }
-    let count = io::count(got, &block);
     run_block(run, &block[..count], line, receive, transmit, buffer, out)
 }
 
 // Reads to the end. A proved loop has to end, and nothing says that the input does: it counts down from a number that no run uses up.
 fn read_all(
+    rt: HostRuntime,
     line: &mut Line,
     receive: &mut Table,
     transmit: &mut Table,
     buffer: &mut Buffer,
     out: &mut Block,
 ) -> Run {
-    let mut run = Run::start();
+    let mut run = Run::start(rt);
     let mut turns = u64::MAX;
     while turns > 0 && run.more {
-        run = read_block(run, line, receive, transmit, buffer, out);
+        run = read_block(rt, run, line, receive, transmit, buffer, out);
         turns -= 1;
     }
     run
@@ -88,13 +91,14 @@ fn finish(
 }
 
 // Plays the script. "At the start: .. receive and transmit table of 1,024 zeros". What a line can lend past these is only a length.
-fn play() -> Status {
+fn play(rt: HostRuntime) -> Status {
     let mut line = [0u8; 262144];
     let mut receive = [0u16; 2048];
     let mut transmit = [0u16; 2048];
     let mut buffer = io::large_buffer();
     let mut out = io::large_buffer();
     let run = read_all(
+        rt,
         &mut line,
         &mut receive,
         &mut transmit,
@@ -112,16 +116,16 @@ fn play() -> Status {
 }
 
 // Does what the arguments from a place on ask, and gives how that ended.
-fn act(first: usize) -> Status {
-    if os::arg_count() <= first {
-        return play();
+fn act(rt: HostRuntime, first: usize) -> Status {
+    if count_arguments(rt) <= first {
+        return play(rt);
     }
-    show_usage(asks_help(first))
+    show_usage(rt, asks_help(rt, first))
 }
 
-fn main() {
-    match status::begin(&PROGRAM) {
-        Begun::On(front) => front.end(&PROGRAM, act(front.first)),
-        Begun::Over(front, how) => front.end(&PROGRAM, how),
+fn main(rt: HostRuntime) {
+    match status::begin(rt, &PROGRAM) {
+        Begun::On(front) => front.end(rt, &PROGRAM, act(rt, front.first)),
+        Begun::Over(front, how) => front.end(rt, &PROGRAM, how),
     }
 }

@@ -2,8 +2,7 @@
 // line's `?`, so that who waits for the `?` finds it there. Refusals: none.
 use crate::complaints::PROGRAM;
 use crate::usages::put_wanted;
-use libc::STDERR_FILENO;
-use lines::{Block, Sink, between, part_end};
+use lines::{Block, Sink, Target, between, part_end};
 
 #[derive(Clone, Copy)]
 pub(crate) enum Reason {
@@ -73,7 +72,7 @@ fn put_reason(sink: Sink, block: &mut Block, reason: Reason, line: &[u8]) -> Sin
 // Says why the line of a number is no call: "cards: line 4: mark wants TIME".
 pub(crate) fn say(reason: Reason, number: u64, line: &[u8]) {
     let mut block = io::large_buffer();
-    let begun = Sink::to(STDERR_FILENO)
+    let begun = Sink::to(Target::Errors)
         .put_text(&mut block, &PROGRAM)
         .put_number(&mut block, b": line ", number)
         .put_text(&mut block, b": ");

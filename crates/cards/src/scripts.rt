@@ -11,8 +11,7 @@ use crate::replies::{Reply, put_happened, put_reply};
 use crate::terminals::{act, first_terminal};
 use crate::usages::write_calls;
 use crate::verdicts::plan_of;
-use libc::STDOUT_FILENO;
-use lines::{Block, Sink, between, complain};
+use lines::{Block, Sink, Target, between, complain};
 use terminal::Terminal;
 
 // The longest line that is kept.
@@ -81,13 +80,13 @@ fn tell(reply: Reply, number: u64, line: &[u8]) -> bool {
 }
 
 impl Run {
-    pub(crate) fn start() -> Run {
+    pub(crate) fn start(rt: HostRuntime) -> Run {
         let terminal = first_terminal();
         let bench = Bench::start();
         Run {
             terminal,
             bench,
-            sink: Sink::to(STDOUT_FILENO),
+            sink: Sink::to(Target::Output(rt.stdout())),
             gathering: Gathering::start(1),
             missed: false,
             more: true,
@@ -162,7 +161,7 @@ impl Run {
 fn write_waiting(sink: Sink, out: &Block) -> Sink {
     let after = sink.flush(out);
     if after.failed {
-        complain(&PROGRAM, b"standard output");
+        complain(&PROGRAM, b"standard output", after.why);
     }
     after
 }

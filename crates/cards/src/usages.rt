@@ -1,8 +1,7 @@
 // The calls as `help` prints them, which is also where a line's parts are looked up that are not those of its call (docs/BENCH.md).
 // Refusals: none.
 use crate::parts::trimmed;
-use libc::STDERR_FILENO;
-use lines::{Block, Sink, between, is_same, part_end};
+use lines::{Block, Sink, Target, between, is_same, part_end};
 
 // where a call stands in its line, and where what it does is said
 const CALL_START: usize = 2;
@@ -131,7 +130,7 @@ pub(crate) fn put_wanted(sink: Sink, block: &mut Block, name: &[u8]) -> Wanted {
 pub(crate) fn write_calls() {
     let mut block = io::large_buffer();
     let lines = usages();
-    Sink::to(STDERR_FILENO)
+    Sink::to(Target::Errors)
         .put_text(
             &mut block,
             b"The calls, one a line. Numbers are decimal, but a word (WORD, C1, C2) is four hexadecimal digits, a MASK eight, a byte two.\n",

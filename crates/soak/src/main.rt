@@ -18,7 +18,7 @@ mod streams;
 mod sums;
 mod sweeps;
 
-use arguments::argument;
+use arguments::{argument, is_there};
 use benches::Bench;
 use draws::draw_word;
 use lines::Number;
@@ -64,16 +64,17 @@ fn turn(
 }
 
 // Writes the line after the call of that number, where one is due.
-fn report(number: u64, calls: u64, every: u64, sum: u64) {
+fn report(rt: HostRuntime, number: u64, calls: u64, every: u64, sum: u64) {
     if every == 0 {
         return;
     }
     if (number % every == 0) | (number == calls) {
-        write_line(number, sum);
+        write_line(rt, number, sum);
     }
 }
 
 fn run(
+    rt: HostRuntime,
     calls: u64,
     every: u64,
     seed: &mut u64,
@@ -89,18 +90,19 @@ fn run(
     while number < calls {
         number += 1;
         progress = turn(progress, number, seed, receive, transmit, copy);
-        report(number, calls, every, progress.bench.sum);
+        report(rt, number, calls, every, progress.bench.sum);
     }
 }
 
 // Makes so many calls from that seed. "The receive table starts as 1,024 zeros." What an event can be lent past that is only a length.
-fn soak(calls: u64, start: u64, every: u64) {
+fn soak(rt: HostRuntime, calls: u64, start: u64, every: u64) {
     let mut seed = start;
     let mut receive = [0u16; 2048];
     let mut transmit = [0u16; 2048];
     let mut copy = [0u16; 1024];
     fill(&mut seed, &mut transmit);
     run(
+        rt,
         calls,
         every,
         &mut seed,
@@ -110,18 +112,18 @@ fn soak(calls: u64, start: u64, every: u64) {
     );
 }
 
-fn main() {
-    let Number::Is(calls) = argument(1, 0) else {
+fn main(rt: HostRuntime) {
+    let Number::Is(calls) = argument(rt, 1, 0) else {
         return write_usage();
     };
-    let Number::Is(seed) = argument(2, 1) else {
+    let Number::Is(seed) = argument(rt, 2, 1) else {
         return write_usage();
     };
-    let Number::Is(every) = argument(3, 100000) else {
+    let Number::Is(every) = argument(rt, 3, 100000) else {
         return write_usage();
     };
-    if (calls == 0) | (every == 0) | (os::arg_count() > 4) {
+    if (calls == 0) | (every == 0) | is_there(rt, 4) {
         return write_usage();
     }
-    soak(calls, seed, every);
+    soak(rt, calls, seed, every);
 }

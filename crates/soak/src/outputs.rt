@@ -1,5 +1,8 @@
 // The lines that the program writes.
-use libc::{STDERR_FILENO, STDOUT_FILENO};
+use std::io::Print;
+
+// the number of standard error
+const ERRORS: i32 = 2;
 
 // "16 hexadecimal digits, capitals"
 const DIGITS: [u8; 16] = *b"0123456789ABCDEF";
@@ -17,15 +20,15 @@ fn capitals(number: u64) -> [u8; 16] {
 }
 
 // "A line 'soak CALLS CHECKSUM'"
-pub(crate) fn write_line(calls: u64, sum: u64) {
+pub(crate) fn write_line(rt: HostRuntime, calls: u64, sum: u64) {
     let text = capitals(sum);
-    io::write_all(STDOUT_FILENO, b"soak ");
-    io::print_decimal(STDOUT_FILENO, calls);
-    io::write_all(STDOUT_FILENO, b" ");
-    io::write_all(STDOUT_FILENO, &text);
-    io::write_all(STDOUT_FILENO, b"\n");
+    let _ = Print::write_all(&rt, b"soak ");
+    let _ = rt.print(calls);
+    let _ = Print::write_all(&rt, b" ");
+    let _ = Print::write_all(&rt, &text);
+    let _ = Print::write_all(&rt, b"\n");
 }
 
 pub(crate) fn write_usage() {
-    io::write_all(STDERR_FILENO, b"usage: soak CALLS [SEED [EVERY]]\n");
+    io::write_all(ERRORS, b"usage: soak CALLS [SEED [EVERY]]\n");
 }
