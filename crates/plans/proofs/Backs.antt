@@ -1,5 +1,5 @@
 -- A line that is made of parts, one space apart, is read as these parts; and the parts of a line of a plan say what was written. Assumes nothing.
-use Rattle.std.proofs.Common.{◌≡◌, ℕ, ◌+◌, ◌-◌, ◌/◌, ◌%◌, ◌^◌, ◌<◌, ◌≤◌, Bool, true, false, cond, not, ◌&&◌, eqb, ltb, leb, ◌⊎◌, List, [], ◌∷◌, ◌++◌, length, sym, refl, ap, ◌∙◌, ⊎_elim, append_assoc, append-nil, arith, length-append, le-ltb, lt-ltb, ne_eqb, le-leb, leb-true}
+use Rattle.std.proofs.Common.{◌≡◌, ℕ, ◌/◌, ◌%◌, ◌^◌, ◌<◌, ◌≤◌, Bool, true, false, cond, not, ◌&&◌, eqb, ltb, leb, List, [], ◌∷◌, ◌++◌, length, sym, refl, ap, ◌∙◌, ⊎_elim, append_assoc, append-nil, arith, length-append, le-ltb, lt-ltb, ne_eqb, le-leb, leb-true}
 use borrow.Author.Tests.{not-true}
 use Rattle.words.proofs.Truth.{and_both, passes, passed}
 use Rattle.words.specs.declared.commands.CommandWord.{CommandWord}
@@ -10,7 +10,7 @@ use Rattle.lines.specs.Names.{same_text}
 use Rattle.lines.proofs.Backs.{decimal_back, word_back}
 use Rattle.schedule.specs.declared.messages.Message.{Message}
 use Rattle.plans.specs.declared.entries.Entry.TheVariants.{Capacities, Capacity, Placed}
-use Rattle.plans.specs.Parts.{before_remark, is_control, has_control, before_control, apart, tight_from, tight, split_from, parts_of}
+use Rattle.plans.specs.Parts.{before_remark, is_control, has_control, before_control, tight_from, tight, split_from, parts_of}
 use Rattle.plans.specs.Entries.{capacity_text, capacities_of, capacity_of, capacity_entry, message_text, word_of, is_number, is_command, placed_of, message_with, single_of, pair_of, message_entry, parts_entry, said_of, entry_of}
 use Rattle.plans.specs.Drafts.{lines_from}
 use Rattle.plans.specs.Texts.{line_text, message_parts}

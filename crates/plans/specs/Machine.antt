@@ -1,5 +1,5 @@
 -- The machine that reads a plan: it is fed the text in any chunks, and ended (docs/LINES.md, busplan FILE). Assumes nothing.
-use Rattle.std.specs.Prelude.{ℕ, ◌+◌, Bool, true, false, cond, not, ◌&&◌, ◌||◌, List, [], ◌∷◌, replicate, ◌==◌, nat_lt, slice_set}
+use Rattle.std.specs.Prelude.{ℕ, ◌+◌, Bool, true, false, cond, ◌&&◌, ◌||◌, List, [], ◌∷◌, replicate, ◌==◌, nat_lt, slice_set}
 use Rattle.lines.specs.Parts.{between_of}
 use Rattle.plans.specs.declared.entries.Fault.TheVariants as fault
 use Rattle.plans.specs.declared.entries.Entry.{Entry}
