@@ -1,7 +1,7 @@
 -- The texts that a test or a number chooses, by what the code has at that place. Assumes nothing.
 use mathlib.Core.Path.{◌≡◌, refl, sym, ap, subst, ◌∙◌}
-use mathlib.Core.Bool.{Bool, true, false, cond, not, true≢false}
-use Prim.Native.Nat.{ℕ, suc, ◌+◌, ◌-◌, ◌≤◌}
+use mathlib.Core.Bool.{Bool, true, false, cond, not}
+use Prim.Native.Nat.{ℕ, ◌+◌, ◌-◌, ◌≤◌}
 use native.Mathlib.Omega.{arith}
 use native.Mathlib.Decide.{dec_le}
 use mathlib.Core.Logic.{dite}
@@ -33,10 +33,6 @@ module _ (bus : ℕ) where
   pub bus_b : (bus ≡ 0 → ⊥) → text_of " B" ≡ bus_text bus
   unfolding bus_text
   bus_b e = rw (ne_eqb bus 0 e)
-
--- one number further
-pub past : (k n : ℕ) → k ≤ n → (n ≡ k → ⊥) → suc k ≤ n
-past k n l e = omega (arith, l, e)
 
 pub unnamed : (number : ℕ) → 13 ≤ number → text_of " unnamed" ≡ verdict_name number
 unfolding verdict_name
@@ -102,15 +98,13 @@ pub parity_flaw : (parity bit word : ℕ) (manchester bits sync : Bool) → bit 
 parity_flaw parity bit word manchester bits sync e = ap (λ (b : ℕ). flaws_text (not (eqb parity b)) manchester bits sync) e
 
 module _ (more : Bool) (name : List ℕ) where
-  pub flaw_none : (bad : Bool) → not bad ≡ true → [] ≡ flaw_text more bad name
+  pub flaw_none : (bad : Bool) → bad ≡ false → [] ≡ flaw_text more bad name
   unfolding flaw_text
-  flaw_none true e = absurd (true≢false (sym e))
-  flaw_none false e = refl
+  flaw_none bad e = rw e
 
-  pub flaw_some : (bad : Bool) (mark : ℕ) → not bad ≡ false → mark ≡ flaw_mark more → mark ∷ name ≡ flaw_text more bad name
+  pub flaw_some : (bad : Bool) (mark : ℕ) → bad ≡ true → mark ≡ flaw_mark more → mark ∷ name ≡ flaw_text more bad name
   unfolding flaw_text
-  flaw_some true mark e q = ap (λ (m : ℕ). m ∷ name) q
-  flaw_some false mark e q = absurd (true≢false e)
+  flaw_some bad mark e q = rw e (ap (λ (m : ℕ). m ∷ name) q)
 
 -- nothing more was spelled
 pub spelled_none : {block text last : List ℕ} {at after : ℕ} → Spelled block at text last after → Spelled last after [] last after

@@ -11,8 +11,8 @@ use Rattle.texts.specs.Theorems.{LineExamples, AddedExamples}
 pub line_examples : LineExamples
 unfolding bus_text decimal_text decimal_in digit_of verdict_name first_text is_changed
 line_examples =
-    record { to_one = refl; between_two_lem = refl; outside = refl; impossible = refl; log_end = refl; log_refused = refl; run = refl; save_end = λ last. refl }
+    record { to_one = refl; two_between = refl; outside = refl; impossible = refl; log_end = refl; log_refused = refl; run = refl; save_end = λ last. refl }
 
 pub added_examples : AddedExamples
 unfolding bus_text decimal_text decimal_in digit_of verdict_name address_text direction_text kind_text flaw_mark flaw_text flaws_text is_mode words_of parity_of is_odd ones_in
-added_examples = record { to_one = refl; between_two_lem = refl; outside = refl; impossible = refl }
+added_examples = record { to_one = refl; two_between = refl; outside = refl; impossible = refl }

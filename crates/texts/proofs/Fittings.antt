@@ -23,7 +23,7 @@ use Rattle.texts.specs.Theorems.{Number, CommandsFit, StatusesFit, GapFits, Outc
 
 record_fits : (r : WordRecord) → records.Fits last_bus r → SingleFits r
 record_fits r f =
-    let ranged = in_range_all last_bus r f.in-range in
+    let ranged = in_range_all last_bus r f.ranged in
     record {
       time = omega (arith, ranged.time);
       bus = ranged.bus;

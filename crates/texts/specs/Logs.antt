@@ -5,7 +5,6 @@ use Rattle.monitor.specs.declared.entries.Commands.{Commands}
 use Rattle.monitor.specs.declared.entries.Commands.TheVariants as commands
 use Rattle.monitor.specs.declared.entries.Outcome.{Outcome}
 use Rattle.monitor.specs.declared.entries.Outcome.TheVariants as outcome
-use Rattle.monitor.specs.declared.entries.Message.{Message}
 use Rattle.monitor.specs.declared.entries.Entry.{Entry}
 use Rattle.monitor.specs.declared.entries.Entry.TheVariants as entry
 use Rattle.lines.specs.Spells.{text_of, number_text}

@@ -198,7 +198,7 @@ impossible =
 -- Lines of the document, one of each kind of `busdump` and `bussave`: line_examples
 pub record LineExamples : Type 0 where
   pub to_one : entry_text false to_one_entry ≡ text_of "1000 A msg cmd=2842 st=2800 data=2 rec=4 gap=80 verdict=0 good"
-  pub between_two_lem : entry_text false between_two ≡ text_of "2000 B msg cmd=2842,2462 st=2000,2800 data=2 rec=6 gap=80 verdict=0 good"
+  pub two_between : entry_text false between_two ≡ text_of "2000 B msg cmd=2842,2462 st=2000,2800 data=2 rec=6 gap=80 verdict=0 good"
   pub outside : entry_text false outside ≡ text_of "4000 B one sync=1 faults=2 word=1234 parity=0"
   pub impossible : entry_text false impossible ≡ text_of "9000 A msg cmd=FC42 st=- data=0 rec=1 gap=- verdict=- none"
   pub log_end : log_end_text 4 12 ≡ text_of "# end entries=4 records=12"
@@ -209,7 +209,7 @@ pub record LineExamples : Type 0 where
 -- "`-v` adds the fields of the command words to each message: ..", ".. To each `one` it adds what is bad in its word": added_examples
 pub record AddedExamples : Type 0 where
   pub to_one : entry_text true to_one_entry ≡ entry_text false to_one_entry ++ text_of " c1=rt5,receive,sa2,count2"
-  pub between_two_lem : entry_text true between_two ≡ entry_text false between_two ++ text_of " c1=rt5,receive,sa2,count2 c2=rt4,transmit,sa3,count2"
+  pub two_between : entry_text true between_two ≡ entry_text false between_two ++ text_of " c1=rt5,receive,sa2,count2 c2=rt4,transmit,sa3,count2"
   pub outside : entry_text true outside ≡ entry_text false outside ++ text_of " bad=bits"
   pub impossible : entry_text true impossible ≡ entry_text false impossible ++ text_of " c1=all,transmit,sa2,count2"
 
