@@ -1,5 +1,4 @@
 -- `read_call` is safe and ends: the measure is the number of steps that are left. Assumes nothing.
-use Rattle.std.proofs.Common.{rules}
 use Rattle.busdump.proofs.options.read_call.Given as goal
 
 abbrev pub invariant-loop-left : goal.invariant-loop-left

@@ -1,5 +1,5 @@
 -- `put_title` is safe and ends: the measure is the number of arguments that are left before the end. Assumes nothing.
-use Rattle.std.proofs.Common.{◌-◌, rules}
+use Rattle.std.proofs.Common.{◌-◌}
 use Rattle.busdump.proofs.outputs.put_title.Given as goal
 
 abbrev pub invariant-loop-place : goal.invariant-loop-place

@@ -1,5 +1,5 @@
 -- `dump_files` is safe and ends: the measure is the number of arguments that are left. Assumes nothing.
-use Rattle.std.proofs.Common.{◌-◌, rules}
+use Rattle.std.proofs.Common.{◌-◌}
 use Rattle.busdump.proofs.runs.dump_files.Given as goal
 
 abbrev pub invariant-loop-place : goal.invariant-loop-place

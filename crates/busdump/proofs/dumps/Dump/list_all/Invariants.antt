@@ -1,5 +1,4 @@
 -- `list_all` is safe and ends: nothing has to hold from turn to turn, and the measure is the number of turns that are left. Assumes nothing.
-use Rattle.std.proofs.Common.{rules}
 use Rattle.busdump.proofs.dumps.Dump.list_all.Given as goal
 
 abbrev pub invariant-loop-turns : goal.invariant-loop-turns

@@ -1,6 +1,5 @@
 -- The machine after the question is the one that it gave. Assumes nothing.
 use Rattle.bussave.proofs.Questions.{asked_salvage}
-use Rattle.std.proofs.Common.{rules}
 use Rattle.bussave.proofs.savings.Saving.ask.Goals as goal
 
 pub returns : goal.returns

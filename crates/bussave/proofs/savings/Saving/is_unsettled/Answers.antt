@@ -1,6 +1,5 @@
 -- By what the machine says of itself. Assumes nothing.
 use Rattle.bussave.proofs.Questions.{not_settled}
-use Rattle.std.proofs.Common.{rules}
 use Rattle.bussave.proofs.savings.Saving.is_unsettled.Goals as goal
 
 pub returns : goal.returns

@@ -1,6 +1,4 @@
 -- The loop's invariant: what waits stands inside the room. The measure is how many bytes wait. Assumes nothing.
-use Rattle.std.proofs.Common.{◌≤◌, length, rules}
-use Rattle.windows.specs.Windows.{count_of}
 use Rattle.bussave.proofs.Questions.{asked_less, asked_inside}
 use Rattle.bussave.proofs.savings.Saving.settle.Goals as goal
 

@@ -1,5 +1,5 @@
 -- `take` is safe and ends: each turn takes one byte or more and none past the end, and the measure is what is left of the bytes. Assumes nothing.
-use Rattle.std.proofs.Common.{◌-◌, ◌≤◌, length, arith, rules}
+use Rattle.std.proofs.Common.{arith}
 use Rattle.bussave.proofs.Questions.{fed_inside, fed_few}
 use Rattle.bussave.proofs.savings.Saving.take.Goals as goal
 

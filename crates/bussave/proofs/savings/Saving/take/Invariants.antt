@@ -1,6 +1,5 @@
 -- `take` is safe and ends: each turn takes one byte or more and none past the end, and the measure is what is left of the bytes. Assumes nothing.
-use Rattle.std.proofs.Common.{◌-◌, ◌≤◌, length, arith, rules}
-use Rattle.bussave.proofs.Questions.{fed_inside, fed_few}
+use Rattle.std.proofs.Common.{◌-◌, ◌≤◌, length}
 use Rattle.bussave.proofs.savings.Saving.take.Given as goal
 
 abbrev pub invariant-loop-at : goal.invariant-loop-at

@@ -1,5 +1,4 @@
 -- `take_all` is safe and ends: nothing has to hold from chunk to chunk, and the measure is the number of turns that are left. Assumes nothing.
-use Rattle.std.proofs.Common.{rules}
 use Rattle.bussave.proofs.savings.Saving.take_all.Given as goal
 
 abbrev pub invariant-loop-turns : goal.invariant-loop-turns

@@ -1,5 +1,5 @@
 -- `with_all` is safe and ends: the measure is the number of places that are left. Assumes nothing.
-use Rattle.std.proofs.Common.{◌-◌, rules}
+use Rattle.std.proofs.Common.{◌-◌}
 use Rattle.bussave.proofs.strays.Strays.with_all.Given as goal
 
 abbrev pub invariant-loop-at : goal.invariant-loop-at
