@@ -1,13 +1,13 @@
 // The program's name, with which all begins that it says on standard error; what is wrong with an argument or with a file; the usage. Refusals: none.
-use libc::STDERR_FILENO;
-use lines::{Block, Sink, begin_complaint, between};
+use lines::{Block, Sink, Target, begin_complaint, between};
 use status::{Status, typed_number};
 
 pub(crate) const PROGRAM: [u8; 7] = *b"busdump";
 
 // Writes what the program does and how it is called, where that was asked for or it was called wrongly.
-pub(crate) fn show_usage(asked: bool) -> Status {
+pub(crate) fn show_usage(rt: HostRuntime, asked: bool) -> Status {
     status::show_usage(
+        rt,
         &PROGRAM,
         b"busdump - print the log of record files: every message, and every word outside one
 usage: bus dump [-b A|B] [-a ADDRESS] [-f FROM] [-t TO] [-e] [-v] [--] FILE..
@@ -25,11 +25,11 @@ example: bus dump -b A -e flight07.rec
 }
 
 // Says what is wrong with an argument: "busdump: argument 2: -b wants A or B, not C".
-pub(crate) fn refuse(place: usize, what: &[u8], why: &[u8], shown: &[u8]) {
+pub(crate) fn refuse(rt: HostRuntime, place: usize, what: &[u8], why: &[u8], shown: &[u8]) {
     let mut block = io::large_buffer();
-    let begun = Sink::to(STDERR_FILENO).put_text(&mut block, &PROGRAM);
+    let begun = Sink::to(Target::Errors).put_text(&mut block, &PROGRAM);
     let placed = begun
-        .put_number(&mut block, b": argument ", typed_number(place) as u64)
+        .put_number(&mut block, b": argument ", typed_number(rt, place) as u64)
         .put_text(&mut block, b": ");
     let told = placed.put_name(&mut block, what);
     told.put_text(&mut block, why)
@@ -60,7 +60,7 @@ fn put_reason(sink: Sink, block: &mut Block, number: u8) -> Sink {
 pub(crate) fn explain_record(name: &[u8], number: u8, record: u64, byte: u64) {
     let mut block = io::large_buffer();
     begin_complaint(&PROGRAM, name);
-    let placed = Sink::to(STDERR_FILENO)
+    let placed = Sink::to(Target::Errors)
         .put_number(&mut block, b": record ", record)
         .put_number(&mut block, b" at byte ", byte)
         .put_text(&mut block, b": ");
@@ -114,6 +114,6 @@ fn put_beginning(sink: Sink, block: &mut Block, start: &[u8]) -> Sink {
 pub(crate) fn explain_beginning(name: &[u8], number: u8, start: &[u8]) {
     let mut block = io::large_buffer();
     begin_complaint(&PROGRAM, name);
-    let said = put_beginning(Sink::to(STDERR_FILENO), &mut block, start);
+    let said = put_beginning(Sink::to(Target::Errors), &mut block, start);
     end_refusal(said, &mut block, number);
 }

@@ -5,6 +5,7 @@ use crate::readers::Reader;
 use crate::tallies::Tally;
 use lines::Block;
 use monitor::{Choice, choose};
+use std::fs::File;
 
 // What goes from entry to entry: the two readings, the lines so far, and whether the log is over.
 #[derive(Clone, Copy)]
@@ -15,12 +16,13 @@ pub(crate) struct Dump {
     pub(crate) over: bool,
 }
 
-// How a dump ended: the lines, whether a read failed, whether both readings came to the same end, and that of the first: the number of the
+// How a dump ended: the lines, whether a read failed and the system's number for that, whether both readings came to the same end, and that of the first: the number of the
 // refusal, 0 at the end of the file, and how many records were read.
 #[derive(Clone, Copy)]
 pub(crate) struct Ending {
     pub(crate) tally: Tally,
     pub(crate) unread: bool,
+    pub(crate) why: i32,
     pub(crate) agreed: bool,
     pub(crate) refusal: u8,
     pub(crate) records: u64,
@@ -42,7 +44,17 @@ impl Dump {
         self.first.failed | self.second.failed
     }
 
-    // Says whether to go on. Nothing is written after a failure, so that errno still tells why.
+    // Gives the system's number of the read that has failed, 0 where none has.
+    fn why(self) -> i32 {
+        let first = self.first;
+        let second = self.second;
+        if first.failed {
+            return first.why;
+        }
+        second.why
+    }
+
+    // Says whether to go on. Nothing is written after a failure.
     fn is_going(self) -> bool {
         !self.over & !self.tally.listed.failed & !self.has_failed()
     }
@@ -56,18 +68,18 @@ impl Dump {
         choose(one, other)
     }
 
-    fn feed_first(self, ahead: &mut Block) -> Dump {
+    fn feed_first(self, input: &File, ahead: &mut Block) -> Dump {
         let first = self.first;
         let second = self.second;
         let tally = self.tally;
-        Dump::on(first.feed(ahead), second, tally)
+        Dump::on(first.feed(input, ahead), second, tally)
     }
 
-    fn feed_second(self, behind: &mut Block) -> Dump {
+    fn feed_second(self, again: &File, behind: &mut Block) -> Dump {
         let first = self.first;
         let second = self.second;
         let tally = self.tally;
-        Dump::on(first, second.feed(behind), tally)
+        Dump::on(first, second.feed(again, behind), tally)
     }
 
     fn give_first(self, listing: &mut Block, options: Options) -> Dump {
@@ -99,17 +111,19 @@ impl Dump {
         }
     }
 
-    // Does what is next.
+    // Does what is next. The first reading reads on of `input`, and the second of `again`.
     fn turn(
         self,
+        input: &File,
+        again: &File,
         ahead: &mut Block,
         behind: &mut Block,
         listing: &mut Block,
         options: Options,
     ) -> Dump {
         match self.choice() {
-            Choice::FeedFirst => self.feed_first(ahead),
-            Choice::FeedSecond => self.feed_second(behind),
+            Choice::FeedFirst => self.feed_first(input, ahead),
+            Choice::FeedSecond => self.feed_second(again, behind),
             Choice::GiveFirst => self.give_first(listing, options),
             Choice::GiveSecond => self.give_second(listing, options),
             Choice::Over => self.end(),
@@ -120,6 +134,8 @@ impl Dump {
     // number that no run uses up.
     pub(crate) fn list_all(
         self,
+        input: &File,
+        again: &File,
         ahead: &mut Block,
         behind: &mut Block,
         listing: &mut Block,
@@ -128,7 +144,7 @@ impl Dump {
         let mut next = self;
         let mut turns = u64::MAX;
         while turns > 0 && next.is_going() {
-            next = next.turn(ahead, behind, listing, options);
+            next = next.turn(input, again, ahead, behind, listing, options);
             turns -= 1;
         }
         next
@@ -152,6 +168,7 @@ impl Dump {
         Ending {
             tally,
             unread: self.has_failed(),
+            why: self.why(),
             agreed: self.is_agreed(),
             refusal: first.refusal(),
             records: first.records(),

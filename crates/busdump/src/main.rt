@@ -16,18 +16,18 @@ use runs::dump_files;
 use status::{Begun, Status, begin};
 
 // Does what the arguments from a place on ask, and gives how that ended.
-fn run(first: usize) -> Status {
-    match read_call(first) {
-        Call::Help => show_usage(true),
-        Call::NoFile => show_usage(false),
+fn run(rt: HostRuntime, first: usize) -> Status {
+    match read_call(rt, first) {
+        Call::Help => show_usage(rt, true),
+        Call::NoFile => show_usage(rt, false),
         Call::Wrong => Status::Usage,
-        Call::Dump(options) => dump_files(options),
+        Call::Dump(options) => dump_files(rt, options),
     }
 }
 
-fn main() {
-    match begin(&PROGRAM) {
-        Begun::On(front) => front.end(&PROGRAM, run(front.first)),
-        Begun::Over(front, status) => front.end(&PROGRAM, status),
+fn main(rt: HostRuntime) {
+    match begin(rt, &PROGRAM) {
+        Begun::On(front) => front.end(rt, &PROGRAM, run(rt, front.first)),
+        Begun::Over(front, status) => front.end(rt, &PROGRAM, status),
     }
 }

@@ -1,8 +1,8 @@
 // What the arguments ask: which entries are shown and how, and where the files begin (docs/LINES.md, busdump). Refusals: none; a wrong
 // argument is said on standard error, and then nothing else is done.
 use crate::complaints::refuse;
-use libc::ENAMETOOLONG;
 use lines::{NAME_BYTES, Number, is_dash, is_same, read_decimal};
+use status::{Asked, ask, count_arguments};
 use std::num::wrapping_add_usize;
 use texts::Wanted;
 use words::CommandWord;
@@ -97,47 +97,48 @@ fn argument_of(text: &[u8]) -> Argument {
 }
 
 // Says that an option was given before.
-fn refuse_again(place: usize, option: &[u8]) -> Step {
-    refuse(place, option, b" is given twice", b"");
+fn refuse_again(rt: HostRuntime, place: usize, option: &[u8]) -> Step {
+    refuse(rt, place, option, b" is given twice", b"");
     Step::Wrong
 }
 
-// Says what the value that was just read should have been.
-fn refuse_value(place: usize, wants: &[u8], value: &[u8]) {
-    if os::errno() == ENAMETOOLONG {
-        return refuse(place, wants, b", and this value is too long", b"");
+// Says what the value that was asked for should have been.
+fn refuse_value(rt: HostRuntime, place: usize, wants: &[u8], asked: Asked, value: &[u8]) {
+    if asked.long {
+        return refuse(rt, place, wants, b", and this value is too long", b"");
     }
     if value.len() == 0 {
-        return refuse(place, wants, b", and there is none", b"");
+        return refuse(rt, place, wants, b", and there is none", b"");
     }
-    refuse(place, wants, b", not ", value);
+    refuse(rt, place, wants, b", not ", value);
 }
 
 // Gives the number at a place. Where there is none that is not above the most, standard error says what is wanted.
-fn number_at(place: usize, wants: &[u8], most: u64) -> Number {
+fn number_at(rt: HostRuntime, place: usize, wants: &[u8], most: u64) -> Number {
     let mut text = [0u8; NAME_BYTES];
-    let length = os::arg(place, &mut text);
-    let number = read_decimal(&text[..length]);
+    let asked = ask(rt, place, &mut text);
+    let number = read_decimal(&text[..asked.length]);
     if let Number::Is(value) = number {
         if value <= most {
             return number;
         }
     }
-    refuse_value(place, wants, &text[..length]);
+    refuse_value(rt, place, wants, asked, &text[..asked.length]);
     Number::None
 }
 
 // Gives the time at a place.
-fn time_at(place: usize, option: &[u8]) -> Number {
-    number_at(place, option, u64::MAX)
+fn time_at(rt: HostRuntime, place: usize, option: &[u8]) -> Number {
+    number_at(rt, place, option, u64::MAX)
 }
 
 // Says whether the argument at a place is a name. Where it is none, standard error says why.
-fn is_name(place: usize) -> bool {
+fn is_name(rt: HostRuntime, place: usize) -> bool {
     let mut name = [0u8; NAME_BYTES];
-    let length = os::arg(place, &mut name);
-    if os::errno() == ENAMETOOLONG {
+    let asked = ask(rt, place, &mut name);
+    if asked.long {
         refuse(
+            rt,
             place,
             b"this name",
             b" is longer than a name can be: 4095 bytes",
@@ -145,8 +146,9 @@ fn is_name(place: usize) -> bool {
         );
         return false;
     }
-    if length == 0 {
+    if asked.length == 0 {
         refuse(
+            rt,
             place,
             b"this name",
             b" is empty: it must be the name of a file",
@@ -199,31 +201,38 @@ impl Options {
         Step::Files(next)
     }
 
-    fn take_bus(self) -> Step {
+    fn take_bus(self, rt: HostRuntime) -> Step {
         if self.wanted.has_bus {
-            return refuse_again(self.end, b"-b");
+            return refuse_again(rt, self.end, b"-b");
         }
         let mut text = [0u8; NAME_BYTES];
-        let length = os::arg(self.value_place(), &mut text);
+        let asked = ask(rt, self.value_place(), &mut text);
         let mut next = self.after(2);
         next.wanted.has_bus = true;
-        if is_same(&text[..length], b"A") {
+        if is_same(&text[..asked.length], b"A") {
             next.wanted.bus = BUS_A;
             return Step::More(next);
         }
-        if is_same(&text[..length], b"B") {
+        if is_same(&text[..asked.length], b"B") {
             next.wanted.bus = BUS_B;
             return Step::More(next);
         }
-        refuse_value(self.value_place(), b"-b wants A or B", &text[..length]);
+        refuse_value(
+            rt,
+            self.value_place(),
+            b"-b wants A or B",
+            asked,
+            &text[..asked.length],
+        );
         Step::Wrong
     }
 
-    fn take_address(self) -> Step {
+    fn take_address(self, rt: HostRuntime) -> Step {
         if self.wanted.has_address {
-            return refuse_again(self.end, b"-a");
+            return refuse_again(rt, self.end, b"-a");
         }
         let asked = number_at(
+            rt,
             self.value_place(),
             b"-a wants an address, 0 to 31 in 1 to 20 digits",
             CommandWord::BROADCAST as u64,
@@ -237,11 +246,12 @@ impl Options {
         Step::More(next)
     }
 
-    fn take_from(self) -> Step {
+    fn take_from(self, rt: HostRuntime) -> Step {
         if self.has_from {
-            return refuse_again(self.end, b"-f");
+            return refuse_again(rt, self.end, b"-f");
         }
         let asked = time_at(
+            rt,
             self.value_place(),
             b"-f wants ticks, a whole number below 2^64 in 1 to 20 digits",
         );
@@ -254,11 +264,12 @@ impl Options {
         Step::More(next)
     }
 
-    fn take_to(self) -> Step {
+    fn take_to(self, rt: HostRuntime) -> Step {
         if self.has_to {
-            return refuse_again(self.end, b"-t");
+            return refuse_again(rt, self.end, b"-t");
         }
         let asked = time_at(
+            rt,
             self.value_place(),
             b"-t wants ticks, a whole number below 2^64 in 1 to 20 digits",
         );
@@ -271,18 +282,18 @@ impl Options {
         Step::More(next)
     }
 
-    fn take_only_bad(self) -> Step {
+    fn take_only_bad(self, rt: HostRuntime) -> Step {
         if self.wanted.only_bad {
-            return refuse_again(self.end, b"-e");
+            return refuse_again(rt, self.end, b"-e");
         }
         let mut next = self.after(1);
         next.wanted.only_bad = true;
         Step::More(next)
     }
 
-    fn take_in_words(self) -> Step {
+    fn take_in_words(self, rt: HostRuntime) -> Step {
         if self.in_words {
-            return refuse_again(self.end, b"-v");
+            return refuse_again(rt, self.end, b"-v");
         }
         let mut next = self.after(1);
         next.in_words = true;
@@ -290,25 +301,26 @@ impl Options {
     }
 
     // Takes the argument behind those that were looked at.
-    fn step(self) -> Step {
+    fn step(self, rt: HostRuntime) -> Step {
         let place = self.end;
-        if os::arg_count() <= place {
+        if count_arguments(rt) <= place {
             return self.files_after(0);
         }
         let mut text = [0u8; NAME_BYTES];
-        let length = os::arg(place, &mut text);
+        let length = ask(rt, place, &mut text).length;
         match argument_of(&text[..length]) {
-            Argument::Bus => self.take_bus(),
-            Argument::Address => self.take_address(),
-            Argument::From => self.take_from(),
-            Argument::To => self.take_to(),
-            Argument::OnlyBad => self.take_only_bad(),
-            Argument::InWords => self.take_in_words(),
+            Argument::Bus => self.take_bus(rt),
+            Argument::Address => self.take_address(rt),
+            Argument::From => self.take_from(rt),
+            Argument::To => self.take_to(rt),
+            Argument::OnlyBad => self.take_only_bad(rt),
+            Argument::InWords => self.take_in_words(rt),
             Argument::Help => Step::Help,
             Argument::Last => self.files_after(1),
             Argument::File => self.files_after(0),
             Argument::Unknown => {
                 refuse(
+                    rt,
                     place,
                     &text[..length],
                     b" is no option; a file of that name goes behind --",
@@ -320,14 +332,14 @@ impl Options {
     }
 
     // Looks at all names before the first file is read.
-    fn with_files(self) -> Call {
-        let count = os::arg_count();
+    fn with_files(self, rt: HostRuntime) -> Call {
+        let count = count_arguments(rt);
         let mut place = self.first;
         if count <= place {
             return Call::NoFile;
         }
         while place < count {
-            if !is_name(place) {
+            if !is_name(rt, place) {
                 return Call::Wrong;
             }
             place += 1;
@@ -337,16 +349,16 @@ impl Options {
 }
 
 // Reads the options, from a place on. Each step takes an argument, so that there are no more steps than arguments.
-pub(crate) fn read_call(first: usize) -> Call {
+pub(crate) fn read_call(rt: HostRuntime, first: usize) -> Call {
     let mut options = Options::start(first);
-    let mut left = os::arg_count();
+    let mut left = count_arguments(rt);
     while left > 0 {
-        match options.step() {
+        match options.step(rt) {
             Step::More(next) => {
                 options = next;
             }
             Step::Files(next) => {
-                return next.with_files();
+                return next.with_files(rt);
             }
             Step::Help => {
                 return Call::Help;

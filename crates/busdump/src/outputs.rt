@@ -1,16 +1,18 @@
 // The line that opens a log, and the names in it (02 a; docs/LINES.md). Refusals: none.
 use lines::{Block, NAME_BYTES, Sink};
+use status::ask;
 
 // Puts the argument at a place, and a space.
-fn put_argument(sink: Sink, block: &mut Block, place: usize) -> Sink {
+fn put_argument(rt: HostRuntime, sink: Sink, block: &mut Block, place: usize) -> Sink {
     let mut text = [0u8; NAME_BYTES];
-    let length = os::arg(place, &mut text);
+    let length = ask(rt, place, &mut text).length;
     sink.put_name(block, &text[..length]).put(block, b' ')
 }
 
 // Puts "# busdump OPTIONS NAME", the options as they were given, so that a narrowed log is not taken for a whole one. They stand from a place on up to
 // another.
 pub(crate) fn put_title(
+    rt: HostRuntime,
     sink: Sink,
     block: &mut Block,
     begin: usize,
@@ -20,7 +22,7 @@ pub(crate) fn put_title(
     let mut after = sink.put_text(block, b"# busdump ");
     let mut place = begin;
     while place < end {
-        after = put_argument(after, block, place);
+        after = put_argument(rt, after, block, place);
         place += 1;
     }
     after.put_named(block, b"", name)

@@ -2,51 +2,54 @@
 // Refusals: 8 of the file, where it begins.
 ghost use Rattle.std.specs.Prelude.{◌≤◌, length};
 
-use lines::Block;
+use lines::{Block, Source};
 use monitor::{Found, Side, Stop};
 use records::{Opened, open_file};
+use std::fs::File;
 use windows::Window;
 use words::Refusal;
 
-// A reading: its own descriptor of the file, the side, which bytes of the chunk wait, and whether a read has failed.
+// A reading: the side, which bytes of the chunk wait, and whether a read has failed. `why` is the system's number of that failure. Each reading has its own
+// descriptor of the file, which is lent to it.
 #[derive(Clone, Copy)]
 pub(crate) struct Reader {
-    pub(crate) fd: i32,
     pub(crate) side: Side,
     pub(crate) window: Window,
     pub(crate) failed: bool,
+    pub(crate) why: i32,
 }
 
-// How a reading begins: behind the version, refused with so many bytes in the chunk, or with a read that failed.
+// How a reading begins: behind the version, refused with so many bytes in the chunk, or with a read that failed, of which it has the system's number.
 #[derive(Clone, Copy)]
 pub(crate) enum Begun {
     Behind(Reader),
     Refused(Refusal, usize),
-    Failed,
+    Failed(i32),
 }
 
-// Reads on behind so many bytes, and gives what the system answers.
-fn read_behind(fd: i32, chunk: &mut [u8], kept: usize) -> isize
+// Reads on behind so many bytes, and gives how many came, or the system's number for why none could.
+fn read_behind(file: &File, chunk: &mut [u8], kept: usize) -> Result<usize, i32>
     requires { kept ≤ length chunk.old }
 {
-    libc::read(fd, &mut chunk[kept..])
+    Source::Opened(file).read(&mut chunk[kept..])
 }
 
 impl Reader {
     // Begins to read a file, for a bus: "One version byte, 1, opens the file."
-    pub(crate) fn begin(fd: i32, bus: u8, chunk: &mut Block) -> Begun {
-        let got = libc::read(fd, chunk);
-        if got < 0 {
-            return Begun::Failed;
-        }
-        let count = io::count(got, chunk);
+    pub(crate) fn begin(file: &File, bus: u8, chunk: &mut Block) -> Begun {
+        let count = match Source::Opened(file).read(chunk) {
+            Ok(count) => count,
+            Err(why) => {
+                return Begun::Failed(why);
+            }
+        };
         let window = Window::empty().with_more(chunk, count);
         match open_file(window.bytes(chunk)) {
             Opened::At(cursor) => Begun::Behind(Reader {
-                fd,
                 side: Side::start(bus),
                 window: window.after(cursor.at),
                 failed: false,
+                why: 0,
             }),
             Opened::Refused(refusal) => Begun::Refused(refusal, count),
         }
@@ -56,21 +59,21 @@ impl Reader {
     fn after(self, side: Side, taken: usize) -> Reader {
         let window = self.window;
         Reader {
-            fd: self.fd,
             side,
             window: window.after(taken),
             failed: self.failed,
+            why: self.why,
         }
     }
 
     // Gives the reading with these bytes of the chunk, or with a read that failed.
-    fn with(self, window: Window, failed: bool) -> Reader {
+    fn with(self, window: Window, failed: bool, why: i32) -> Reader {
         let side = self.side;
         Reader {
-            fd: self.fd,
             side,
             window,
             failed,
+            why,
         }
     }
 
@@ -81,25 +84,24 @@ impl Reader {
     }
 
     // Reads on, behind the bytes of a record that is not whole yet.
-    fn refill(self, chunk: &mut Block) -> Reader {
+    fn refill(self, file: &File, chunk: &mut Block) -> Reader {
         let before = self.window;
         let window = before.make_room(chunk);
-        let got = read_behind(self.fd, chunk, window.to);
-        if got == 0 {
-            return self.end(window.bytes(chunk));
+        match read_behind(file, chunk, window.to) {
+            Ok(0) => self.end(window.bytes(chunk)),
+            Ok(came) => self.with(window.with_more(chunk, came), false, 0),
+            Err(why) => self.with(window, true, why),
         }
-        let came = io::count(got, chunk);
-        self.with(window.with_more(chunk, came), got < 0)
     }
 
     // Brings the side to its next entry, or to the end of the chunk; where no record of it waits any more, the next is read.
-    pub(crate) fn feed(self, chunk: &mut Block) -> Reader {
+    pub(crate) fn feed(self, file: &File, chunk: &mut Block) -> Reader {
         let side = self.side;
         let window = self.window;
         let fed = side.feed(window.bytes(chunk));
         let taken = fed.taken;
         if taken == 0 {
-            return self.refill(chunk);
+            return self.refill(file, chunk);
         }
         let after = fed.side;
         self.after(after, taken)

@@ -6,9 +6,10 @@ use crate::options::{BUS_A, BUS_B, Options};
 use crate::outputs::put_title;
 use crate::readers::{Begun, Reader};
 use crate::tallies::{Tally, byte_of};
-use libc::{SEEK_CUR, STDOUT_FILENO};
-use lines::{Block, NAME_BYTES, Sink, between, complain, is_dash, remark};
-use status::Status;
+use lines::{Block, NAME_BYTES, Sink, Target, between, complain, is_dash, open_named, remark};
+use status::{Status, ask, count_arguments};
+use std::fs::File;
+use std::io::Seek;
 use texts::put_log_refused;
 use words::Refusal;
 
@@ -35,9 +36,9 @@ fn give_up(listed: Sink, listing: &mut Block, name: &[u8], why: &[u8]) -> Closed
     Closed::badly(listed.end_in_error(listing, &PROGRAM, name))
 }
 
-// Says what failed just now, and closes the file by its name.
-fn fail(listed: Sink, listing: &mut Block, name: &[u8]) -> Closed {
-    Closed::badly(listed.fail(listing, &PROGRAM, name))
+// Says what failed, by the system's number for it, and closes the file by its name.
+fn fail(listed: Sink, listing: &mut Block, name: &[u8], why: i32) -> Closed {
+    Closed::badly(listed.fail(listing, &PROGRAM, name, why))
 }
 
 // Closes a file that was refused as a whole, and that begins with so many bytes of the chunk.
@@ -76,11 +77,11 @@ impl Ending {
         let tally = self.tally;
         let listed = tally.listed;
         if listed.failed {
-            complain(&PROGRAM, b"standard output");
+            complain(&PROGRAM, b"standard output", listed.why);
             return Closed::badly(listed);
         }
         if self.unread {
-            return fail(listed, listing, name);
+            return fail(listed, listing, name, self.why);
         }
         if !self.agreed {
             return give_up(
@@ -97,21 +98,24 @@ impl Ending {
 // Lists the log of a file of which both readings have begun.
 fn dump_readings(
     start: Dump,
+    input: &File,
+    again: &File,
     ahead: &mut Block,
     behind: &mut Block,
     listing: &mut Block,
     name: &[u8],
     options: Options,
 ) -> Closed {
-    let last = start.list_all(ahead, behind, listing, options);
+    let last = start.list_all(input, again, ahead, behind, listing, options);
     last.ending().close(listing, name)
 }
 
 // Lists the log of a file of which the first reading has begun.
 fn dump_behind(
     first: Reader,
+    input: &File,
     ahead: &mut Block,
-    again: i32,
+    again: &File,
     listed: Sink,
     listing: &mut Block,
     name: &[u8],
@@ -121,17 +125,26 @@ fn dump_behind(
     match Reader::begin(again, BUS_B, &mut behind) {
         Begun::Behind(second) => {
             let start = Dump::on(first, second, Tally::start(listed));
-            dump_readings(start, ahead, &mut behind, listing, name, options)
+            dump_readings(
+                start,
+                input,
+                again,
+                ahead,
+                &mut behind,
+                listing,
+                name,
+                options,
+            )
         }
         Begun::Refused(_, _) => give_up(listed, listing, name, b": it changed while it was read"),
-        Begun::Failed => fail(listed, listing, name),
+        Begun::Failed(why) => fail(listed, listing, name, why),
     }
 }
 
 // Lists the log of a file that is open twice.
 fn dump_both(
-    input: i32,
-    again: i32,
+    input: &File,
+    again: &File,
     listed: Sink,
     listing: &mut Block,
     name: &[u8],
@@ -140,24 +153,28 @@ fn dump_both(
     let mut ahead = io::large_buffer();
     match Reader::begin(input, BUS_A, &mut ahead) {
         Begun::Behind(first) => {
-            dump_behind(first, &mut ahead, again, listed, listing, name, options)
+            dump_behind(
+                first, input, &mut ahead, again, listed, listing, name, options,
+            )
         }
         Begun::Refused(refusal, count) => {
             end_refused(listed, listing, name, refusal, &ahead, count)
         }
-        Begun::Failed => fail(listed, listing, name),
+        Begun::Failed(why) => fail(listed, listing, name, why),
     }
 }
 
 // Lists the log of a file that is open once. A pipe has no place to go back to: what it brings comes once.
 fn dump_open(
-    input: i32,
+    rt: HostRuntime,
+    input: &File,
     listed: Sink,
     listing: &mut Block,
     name: &[u8],
     options: Options,
 ) -> Closed {
-    if libc::lseek(input, 0, SEEK_CUR) < 0 {
+    let mut place = input;
+    if place.stream_position().is_err() {
         return give_up(
             listed,
             listing,
@@ -165,19 +182,22 @@ fn dump_open(
             b": cannot be read twice, as a log needs it: copy it to a file first",
         );
     }
-    let again = os::open_read(name);
-    if again < 0 {
-        return fail(listed, listing, name);
+    match open_named(rt, name) {
+        Ok(again) => dump_both(input, &again, listed, listing, name, options),
+        Err(why) => fail(listed, listing, name, why),
     }
-    let after = dump_both(input, again, listed, listing, name, options);
-    libc::close(again);
-    after
 }
 
 // Lists the log of a file. The first line goes out before it is opened: where standard output is closed, the file would take its number. Nothing waits before it
 // and it fits the block, so that only the flush can fail.
-fn dump_file(sink: Sink, listing: &mut Block, name: &[u8], options: Options) -> Closed {
-    let titled = put_title(sink, listing, options.begin, options.end, name);
+fn dump_file(
+    rt: HostRuntime,
+    sink: Sink,
+    listing: &mut Block,
+    name: &[u8],
+    options: Options,
+) -> Closed {
+    let titled = put_title(rt, sink, listing, options.begin, options.end, name);
     let listed = titled.flush_told(listing, &PROGRAM);
     if listed.failed {
         return Closed::badly(listed);
@@ -190,31 +210,34 @@ fn dump_file(sink: Sink, listing: &mut Block, name: &[u8], options: Options) -> 
             b": standard input cannot be read twice, as a log needs it: give the name of a file",
         );
     }
-    let input = os::open_read(name);
-    if input < 0 {
-        return fail(listed, listing, name);
+    match open_named(rt, name) {
+        Ok(input) => dump_open(rt, &input, listed, listing, name, options),
+        Err(why) => fail(listed, listing, name, why),
     }
-    let after = dump_open(input, listed, listing, name, options);
-    libc::close(input);
-    after
 }
 
 // Lists the log of the file that an argument names.
-fn dump_argument(sink: Sink, listing: &mut Block, place: usize, options: Options) -> Closed {
+fn dump_argument(
+    rt: HostRuntime,
+    sink: Sink,
+    listing: &mut Block,
+    place: usize,
+    options: Options,
+) -> Closed {
     let mut name = [0u8; NAME_BYTES];
-    let length = os::arg(place, &mut name);
-    dump_file(sink, listing, &name[..length], options)
+    let length = ask(rt, place, &mut name).length;
+    dump_file(rt, sink, listing, &name[..length], options)
 }
 
 // Lists the logs of all files, and gives whether all went well. Where standard output fails, nothing could be shown of those behind.
-pub(crate) fn dump_files(options: Options) -> Status {
-    let count = os::arg_count();
+pub(crate) fn dump_files(rt: HostRuntime, options: Options) -> Status {
+    let count = count_arguments(rt);
     let mut listing = io::large_buffer();
-    let mut sink = Sink::to(STDOUT_FILENO);
+    let mut sink = Sink::to(Target::Output(rt.stdout()));
     let mut status = Status::Good;
     let mut place = options.first;
     while place < count && !sink.failed {
-        let closed = dump_argument(sink, &mut listing, place, options);
+        let closed = dump_argument(rt, sink, &mut listing, place, options);
         sink = closed.listed;
         status = Status::of(closed.well).after(status);
         place += 1;

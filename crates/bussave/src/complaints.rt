@@ -4,8 +4,9 @@ use status::Status;
 pub(crate) const PROGRAM: [u8; 7] = *b"bussave";
 
 // Writes what the program does and how it is called, where that was asked for or it was called wrongly.
-pub(crate) fn show_usage(asked: bool) -> Status {
+pub(crate) fn show_usage(rt: HostRuntime, asked: bool) -> Status {
     status::show_usage(
+        rt,
         &PROGRAM,
         b"bussave - save what is whole of a damaged record file
 usage: bus save [--] DAMAGED CLEAN      DAMAGED: - is standard input; CLEAN: a file that does not exist yet

@@ -11,7 +11,7 @@ mod strays;
 use complaints::{PROGRAM, show_usage};
 use lines::{NAME_BYTES, is_dash, remark};
 use runs::save;
-use status::{Begun, Status, asks_help, begin, is_at, is_name, is_option};
+use status::{Begun, Status, ask, asks_help, begin, count_arguments, is_at, is_name, is_option};
 use std::num::wrapping_add_usize;
 
 // Says whether an argument may be a name where no `--` stands before it. Where it may not, standard error says so.
@@ -28,21 +28,21 @@ fn is_plain(text: &[u8]) -> bool {
 }
 
 // Saves the file that the argument at a place names to the one that the next names.
-fn save_named(first: usize, behind: bool) -> Status {
+fn save_named(rt: HostRuntime, first: usize, behind: bool) -> Status {
     let mut damaged = [0u8; NAME_BYTES];
-    let from = os::arg(first, &mut damaged);
+    let from = ask(rt, first, &mut damaged);
     if !is_name(&PROGRAM, b"DAMAGED", from) {
         return Status::Usage;
     }
     let mut clean = [0u8; NAME_BYTES];
-    let to = os::arg(wrapping_add_usize(first, 1), &mut clean);
+    let to = ask(rt, wrapping_add_usize(first, 1), &mut clean);
     if !is_name(&PROGRAM, b"CLEAN", to) {
         return Status::Usage;
     }
-    if !behind && !(is_plain(&damaged[..from]) && is_plain(&clean[..to])) {
+    if !behind && !(is_plain(&damaged[..from.length]) && is_plain(&clean[..to.length])) {
         return Status::Usage;
     }
-    if is_dash(&clean[..to]) {
+    if is_dash(&clean[..to.length]) {
         remark(
             &PROGRAM,
             b"CLEAN",
@@ -50,29 +50,29 @@ fn save_named(first: usize, behind: bool) -> Status {
         );
         return Status::Usage;
     }
-    save(&damaged[..from], &clean[..to])
+    save(rt, &damaged[..from.length], &clean[..to.length])
 }
 
 // Does what the arguments from a place on ask, and gives how that ended.
-fn run(first: usize) -> Status {
-    if asks_help(first) {
-        return show_usage(true);
+fn run(rt: HostRuntime, first: usize) -> Status {
+    if asks_help(rt, first) {
+        return show_usage(rt, true);
     }
-    let behind = is_at(first, b"--");
+    let behind = is_at(rt, first, b"--");
     let names = if behind {
         wrapping_add_usize(first, 1)
     } else {
         first
     };
-    if os::arg_count() != wrapping_add_usize(names, 2) {
-        return show_usage(false);
+    if count_arguments(rt) != wrapping_add_usize(names, 2) {
+        return show_usage(rt, false);
     }
-    save_named(names, behind)
+    save_named(rt, names, behind)
 }
 
-fn main() {
-    match begin(&PROGRAM) {
-        Begun::On(front) => front.end(&PROGRAM, run(front.first)),
-        Begun::Over(front, status) => front.end(&PROGRAM, status),
+fn main(rt: HostRuntime) {
+    match begin(rt, &PROGRAM) {
+        Begun::On(front) => front.end(rt, &PROGRAM, run(rt, front.first)),
+        Begun::Over(front, status) => front.end(rt, &PROGRAM, status),
     }
 }

@@ -3,36 +3,33 @@
 use crate::complaints::PROGRAM;
 use crate::savings::{ROOM_BYTES, Saving};
 use crate::strays::Strays;
-use libc::{SEEK_CUR, STDIN_FILENO, STDOUT_FILENO};
-use lines::{Block, Sink, between, complain, hold_errors, is_dash, remark};
+use lines::{
+    Block, Sink, Source, Target, between, complain, failure_of, hold_errors, is_dash, make_named,
+    number_of, open_named, remark,
+};
 use records::RECORD_BYTES;
 use salvage::{Ended, First, Salvage, Totals};
 use status::Status;
+use std::fs::File;
+use std::io::Seek;
+use std::os::fd::AsRawFd;
 use texts::{put_run, put_save_end};
 
-// What stopped a saving before the end of the file.
+// What stopped a saving before the end of the file; of the damaged one it has the system's number.
 #[derive(Clone, Copy)]
 enum Fault {
     None,
     Lines,
     Clean,
-    Damaged,
+    Damaged(i32),
 }
 
-// What closing the clean file shows: it is whole, it has not the bytes of the records that were kept, or the system refused.
+// What ending the clean file shows: it is whole, it has not the bytes of the records that were kept, or the system refused, with its number for why.
 #[derive(Clone, Copy)]
 enum Closed {
     Whole,
     Short,
-    Failed,
-}
-
-// Opens the damaged file, "-" being standard input. A negative answer: it cannot be opened.
-fn open_damaged(name: &[u8]) -> i32 {
-    if is_dash(name) {
-        return STDIN_FILENO;
-    }
-    os::open_read(name)
+    Failed(i32),
 }
 
 // Says that what is in the clean file is not all. It stays: what it has up to its last whole record is good.
@@ -50,30 +47,28 @@ fn is_size(bytes: usize, records: u64) -> bool {
     ((behind / RECORD_BYTES) as u64 == records) & (behind % RECORD_BYTES == 0)
 }
 
-// Says whether a place, as the system gives it, is behind so many records.
-fn is_behind(place: i64, records: u64) -> bool {
-    if place > 0 {
-        return is_size(place as usize, records);
+// Says whether the place in a file, as the system gives it, is behind so many records.
+fn is_behind(file: &File, records: u64) -> bool {
+    let mut made = file;
+    match made.stream_position() {
+        Ok(place) => is_size(place as usize, records),
+        Err(_) => false,
     }
-    false
 }
 
 // Writes what waits for the clean file, and says whether all of it is on the disk.
-fn close_clean(clean: Sink, saved: &Block, records: u64) -> Closed {
+fn close_clean(clean: Sink, made: &File, saved: &Block, records: u64) -> Closed {
     let after = clean.flush(saved);
     if after.failed {
-        return Closed::Failed;
+        return Closed::Failed(failure_of(made));
     }
-    if !is_behind(libc::lseek(after.fd, 0, SEEK_CUR), records) {
+    if !is_behind(made, records) {
         return Closed::Short;
     }
-    if libc::fsync(after.fd) != 0 {
-        return Closed::Failed;
+    match made.sync_all() {
+        Ok(()) => Closed::Whole,
+        Err(error) => Closed::Failed(number_of(error)),
     }
-    if libc::close(after.fd) != 0 {
-        return Closed::Failed;
-    }
-    Closed::Whole
 }
 
 impl Saving {
@@ -84,15 +79,17 @@ impl Saving {
         if self.clean.failed {
             return Fault::Clean;
         }
-        if self.got != 0 {
-            return Fault::Damaged;
+        match self.got {
+            Ok(0) => Fault::None,
+            Ok(_) => Fault::Damaged(0),
+            Err(why) => Fault::Damaged(why),
         }
-        Fault::None
     }
 
-    // Ends a saving of which every byte is settled. The clean file is closed first, so that "# end" says that it is whole.
+    // Ends a saving of which every byte is settled. The clean file is on the disk first, so that "# end" says that it is whole.
     fn end_whole(
         self,
+        made: &File,
         totals: Totals,
         listing: &mut Block,
         saved: &Block,
@@ -103,10 +100,10 @@ impl Saving {
         let listed = self.listed;
         let after = put_run(listed, listing, run).flush(listing);
         if after.failed {
-            complain(&PROGRAM, b"standard output");
+            complain(&PROGRAM, b"standard output", after.why);
         }
         let sink = self.clean;
-        match close_clean(sink, saved, totals.records) {
+        match close_clean(sink, made, saved, totals.records) {
             Closed::Whole => {
                 let ended = put_save_end(after, listing, totals).flush_told(listing, &PROGRAM);
                 if (totals.records == 0) & (totals.bytes > 1) {
@@ -121,18 +118,25 @@ impl Saving {
                 clean,
                 b": its size is not that of the records that were kept",
             ),
-            Closed::Failed => complain(&PROGRAM, clean),
+            Closed::Failed(why) => complain(&PROGRAM, clean, why),
         }
         after.end_in_error(listing, &PROGRAM, clean);
         say_cut(clean)
     }
 
     // Ends a saving that came to the end of the file. Each byte that was read must have been settled.
-    fn end_all(self, listing: &mut Block, saved: &Block, damaged: &[u8], clean: &[u8]) -> Status {
+    fn end_all(
+        self,
+        made: &File,
+        listing: &mut Block,
+        saved: &Block,
+        damaged: &[u8],
+        clean: &[u8],
+    ) -> Status {
         let salvage = self.salvage;
         if let Ended::Whole(totals) = salvage.end() {
             if totals.bytes == self.read {
-                return self.end_whole(totals, listing, saved, damaged, clean);
+                return self.end_whole(made, totals, listing, saved, damaged, clean);
             }
         }
         remark(&PROGRAM, damaged, b": not every byte was settled");
@@ -144,18 +148,25 @@ impl Saving {
     }
 
     // Ends a saving, whatever stopped it.
-    fn finish(self, listing: &mut Block, saved: &Block, damaged: &[u8], clean: &[u8]) -> Status {
+    fn finish(
+        self,
+        made: &File,
+        listing: &mut Block,
+        saved: &Block,
+        damaged: &[u8],
+        clean: &[u8],
+    ) -> Status {
         let listed = self.listed;
         match self.fault() {
             Fault::None => {
-                return self.end_all(listing, saved, damaged, clean);
+                return self.end_all(made, listing, saved, damaged, clean);
             }
-            Fault::Lines => complain(&PROGRAM, b"standard output"),
+            Fault::Lines => complain(&PROGRAM, b"standard output", listed.why),
             Fault::Clean => {
-                listed.fail(listing, &PROGRAM, clean);
+                listed.fail(listing, &PROGRAM, clean, failure_of(made));
             }
-            Fault::Damaged => {
-                listed.fail(listing, &PROGRAM, damaged);
+            Fault::Damaged(why) => {
+                listed.fail(listing, &PROGRAM, damaged, why);
             }
         }
         let sink = self.clean;
@@ -167,7 +178,8 @@ impl Saving {
 // Saves a file of which the first chunk is read, to one that is open.
 fn save_chunks(
     first: Saving,
-    input: i32,
+    input: Source<'_>,
+    made: &File,
     chunk: &mut Block,
     listing: &mut Block,
     damaged: &[u8],
@@ -177,55 +189,83 @@ fn save_chunks(
     let mut saved = io::large_buffer();
     let mut begun = first;
     let sink = begun.clean;
-    let count = io::count(begun.got, chunk);
+    let count = begun.got.unwrap_or(0);
     let version = First::of(between(chunk, 0, count)).version();
     let versioned = sink.put(&mut saved, version);
     begun.clean = versioned;
     let last = begun.take_all(input, chunk, &mut room, listing, &mut saved);
-    last.finish(listing, &saved, damaged, clean)
+    last.finish(made, listing, &saved, damaged, clean)
 }
 
-// Saves the damaged file to the clean one, where the first line is written.
-fn save_listed(listed: Sink, listing: &mut Block, damaged: &[u8], clean: &[u8]) -> Status {
-    let input = open_damaged(damaged);
-    if input < 0 {
-        listed.fail(listing, &PROGRAM, damaged);
-        return Status::Failed;
-    }
+// Says what failed, by the system's number for it, and ends the lines by its name.
+fn fail(listed: Sink, listing: &mut Block, name: &[u8], why: i32) -> Status {
+    listed.fail(listing, &PROGRAM, name, why);
+    Status::Failed
+}
+
+// Saves the damaged file to the clean one, where the first line is written and the damaged one is open.
+fn save_opened(
+    rt: HostRuntime,
+    input: Source<'_>,
+    listed: Sink,
+    listing: &mut Block,
+    damaged: &[u8],
+    clean: &[u8],
+) -> Status {
     let mut chunk = io::large_buffer();
-    let got = libc::read(input, &mut chunk);
-    if got < 0 {
-        listed.fail(listing, &PROGRAM, damaged);
-        return Status::Failed;
+    let got = input.read(&mut chunk);
+    if let Err(why) = got {
+        return fail(listed, listing, damaged, why);
     }
     // something was read and a line was written, so that only standard error's number can be free
-    hold_errors();
-    let output = os::create(clean);
-    if output < 0 {
-        listed.fail(listing, &PROGRAM, clean);
-        return Status::Failed;
+    hold_errors(rt);
+    match make_named(rt, clean) {
+        Ok(made) => {
+            let first = Saving {
+                got,
+                salvage: Salvage::start(),
+                listed,
+                clean: Sink::to(Target::Made(made.as_raw_fd())),
+                read: 0,
+                strays: Strays::none(),
+            };
+            save_chunks(first, input, &made, &mut chunk, listing, damaged, clean)
+        }
+        Err(why) => fail(listed, listing, clean, why),
     }
-    let first = Saving {
-        got,
-        salvage: Salvage::start(),
-        listed,
-        clean: Sink::to(output),
-        read: 0,
-        strays: Strays::none(),
-    };
-    save_chunks(first, input, &mut chunk, listing, damaged, clean)
+}
+
+// Saves the damaged file, "-" being standard input, to the clean one, where the first line is written.
+fn save_listed(
+    rt: HostRuntime,
+    listed: Sink,
+    listing: &mut Block,
+    damaged: &[u8],
+    clean: &[u8],
+) -> Status {
+    if is_dash(damaged) {
+        let input = Source::Input(rt.stdin());
+        return save_opened(rt, input, listed, listing, damaged, clean);
+    }
+    match open_named(rt, damaged) {
+        Ok(file) => {
+            let input = Source::Opened(&file);
+            save_opened(rt, input, listed, listing, damaged, clean)
+        }
+        Err(why) => fail(listed, listing, damaged, why),
+    }
 }
 
 // Saves the damaged file to the clean one. The first line goes out before a file is opened: where standard output is closed, one that is
 // opened would take its number, and with it the lines.
-pub(crate) fn save(damaged: &[u8], clean: &[u8]) -> Status {
+pub(crate) fn save(rt: HostRuntime, damaged: &[u8], clean: &[u8]) -> Status {
     let mut listing = io::large_buffer();
-    let sink = Sink::to(STDOUT_FILENO);
+    let sink = Sink::to(Target::Output(rt.stdout()));
     let titled = sink.put_named(&mut listing, b"# bussave ", damaged);
     let listed = titled.flush(&listing);
     if listed.failed {
-        complain(&PROGRAM, b"standard output");
+        complain(&PROGRAM, b"standard output", listed.why);
         return Status::Failed;
     }
-    save_listed(listed, &mut listing, damaged, clean)
+    save_listed(rt, listed, &mut listing, damaged, clean)
 }

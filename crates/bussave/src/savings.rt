@@ -4,7 +4,7 @@ ghost use Rattle.std.specs.Prelude.{◌≡◌, ◌≤◌, true, false, length};
 ghost use Rattle.salvage.specs.Machine.{asked_of, is_settled_of};
 
 use crate::strays::Strays;
-use lines::{Block, Sink, between};
+use lines::{Block, Sink, Source, between};
 use salvage::Salvage;
 use std::num::{wrapping_add_u64, wrapping_add_usize};
 use texts::put_run;
@@ -14,11 +14,11 @@ pub(crate) const ROOM_BYTES: usize = 65552;
 
 pub(crate) type Room = [u8; ROOM_BYTES];
 
-// What goes from chunk to chunk: what the last read answered, the machine, where lines and records go, how many bytes were read, and the records that were
+// What goes from chunk to chunk: what the last read answered, so many bytes or the system's number for why none, the machine, where lines and records go, how many bytes were read, and the records that were
 // skipped for their time.
 #[derive(Clone, Copy)]
 pub(crate) struct Saving {
-    pub(crate) got: isize,
+    pub(crate) got: Result<usize, i32>,
     pub(crate) salvage: Salvage,
     pub(crate) listed: Sink,
     pub(crate) clean: Sink,
@@ -35,7 +35,7 @@ fn put_unless(failed: bool, sink: Sink, block: &mut Block, bytes: &[u8]) -> Sink
 }
 
 impl Saving {
-    // Says whether a write has failed. Nothing is written after it, so that errno still tells why.
+    // Says whether a write has failed. Nothing is written after it.
     fn has_failed(self) -> bool {
         self.listed.failed | self.clean.failed
     }
@@ -50,7 +50,10 @@ impl Saving {
 
     // Says whether there is a chunk to take.
     fn is_reading(self) -> bool {
-        (self.got > 0) & !self.has_failed()
+        match self.got {
+            Ok(count) => (count > 0) & !self.has_failed(),
+            Err(_) => false,
+        }
     }
 
     // The same saving with the machine fed.
@@ -121,19 +124,19 @@ impl Saving {
     // Takes the chunk that was read, and reads the next.
     fn turn(
         self,
-        input: i32,
+        input: Source<'_>,
         chunk: &mut Block,
         room: &mut Room,
         listing: &mut Block,
         saved: &mut Block,
     ) -> Saving {
-        let count = io::count(self.got, chunk);
+        let count = self.got.unwrap_or(0);
         let mut next = self.take(between(chunk, 0, count), room, listing, saved);
         next.read = wrapping_add_u64(self.read, count as u64);
         if next.has_failed() {
             return next;
         }
-        next.got = libc::read(input, chunk);
+        next.got = input.read(chunk);
         next
     }
 
@@ -141,7 +144,7 @@ impl Saving {
     // a number that no run uses up.
     pub(crate) fn take_all(
         self,
-        input: i32,
+        input: Source<'_>,
         chunk: &mut Block,
         room: &mut Room,
         listing: &mut Block,

@@ -1,8 +1,7 @@
 // Strays: whole records that are skipped for their time alone (02 c; docs/LINES.md, bussave). The lines list their bytes as any others; of these a person wants to
 // know, since nothing is wrong with them but a silence of more than ten seconds, or a time before them that is too late. Refusals: none.
 use crate::complaints::PROGRAM;
-use libc::STDERR_FILENO;
-use lines::{Block, Sink, begin_complaint, between};
+use lines::{Block, Sink, Target, begin_complaint, between};
 use records::{LAST_BUS, RECORD_BYTES, Read, read_record};
 use salvage::{Last, Progress};
 use std::num::{wrapping_add_u64, wrapping_add_usize, wrapping_sub_u64};
@@ -40,7 +39,7 @@ impl Kind {
         }
         let mut block = io::large_buffer();
         begin_complaint(&PROGRAM, name);
-        let counted = put_counted(Sink::to(STDERR_FILENO), &mut block, self.count);
+        let counted = put_counted(Sink::to(Target::Errors), &mut block, self.count);
         counted
             .put_number(&mut block, b" skipped from byte ", self.first)
             .put_text(&mut block, b" on: ")
