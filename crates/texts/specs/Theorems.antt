@@ -120,7 +120,7 @@ pub record EachText (Holds : List ℕ → Type 0) : Type 0 where
   pub run : (run : Run) → Holds (run_text run)
   pub save_end : (totals : Totals) → Holds (save_end_text totals)
 
--- No such text holds a line end or any other control character: line-plain
+-- No such text holds a line end or any other control character: line_plain
 abbrev pub LinePlain : Type 0
 LinePlain = EachText (λ text. is_plain text ≡ true)
 
