@@ -1,14 +1,11 @@
 -- One law for each number of parts. Assumes nothing.
 use Rattle.plans.proofs.Sayings.{single_said, placed_said, pair_said, placed_pair_said, message_wrong}
-use Rattle.std.proofs.Common.{arith}
+use Rattle.std.proofs.Common.{arith, rules}
 use Rattle.plans.proofs.entries.read_message.Goals as goal
 
 pub returns-then-is_command : goal.returns-then-is_command
 returns-then-is_command c =
-    record {
-      entry = pair_said _ _ c.parts_behind.ensures.count _ _ c.part-first.ensures.bytes _ c.part-second.ensures.bytes _ c.part-third.ensures.bytes _ c.part.ensures.bytes
-          c.in-3.is _ c.is_command.ensures.answer c.if-is_command.true c.pair_of.ensures.entry;
-    }
+    record { entry = search (pair_said, rules) }
 
 pub returns-in-2 : goal.returns-in-2
 returns-in-2 c =
@@ -19,10 +16,7 @@ returns-in-2 c =
 
 pub returns-else-is_command : goal.returns-else-is_command
 returns-else-is_command c =
-    record {
-      entry = placed_said _ _ c.parts_behind.ensures.count _ _ c.part-first.ensures.bytes _ c.part-second.ensures.bytes _ c.part-third.ensures.bytes c.in-3.is
-          _ c.is_command.ensures.answer c.if-is_command.false c.single_of-in-3.ensures.entry;
-    }
+    record { entry = search (placed_said, rules) }
 
 pub returns-in-4 : goal.returns-in-4
 returns-in-4 c =

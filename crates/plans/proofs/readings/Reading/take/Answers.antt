@@ -1,5 +1,5 @@
 -- What is left of the chunk, fed to the reading so far, comes to what all of it does; the measure is what is left. Assumes nothing.
-use Rattle.std.proofs.Common.{refl, ◌∙◌}
+use Rattle.std.proofs.Common.{refl, ◌∙◌, arith}
 use borrow.Author.Tests.{not-true, not-false}
 use Rattle.plans.proofs.Feeds.{fed_over, fed_all_lem, line_bad, line_good, byte_bad, byte_good, fed_begun}
 use Rattle.plans.proofs.readings.Reading.take.Goals as goal
@@ -11,31 +11,13 @@ returns-then-not-self c = record { reading = fed_over _ _ (not-true _ c.if-not-s
 pub loop-i-init : goal.loop-i-init
 loop-i-init c = refl
 
-pub with_line-draft-requires : goal.with_line-draft-requires
-with_line-draft-requires c = tt
-
-pub is_bad-requires : goal.is_bad-requires
-is_bad-requires c = tt
-
 pub returns-then-is_bad : goal.returns-then-is_bad
 returns-then-is_bad c =
     record {
       reading = let l = c.loop-i in
-          line_bad _ _ _ _ _ l.invariant c.loop-i-test.true c.if-chunk-i-eq10.true _ c.with_line-draft.ensures.draft _ c.is_bad.ensures.answer c.if-is_bad.true
+          line_bad _ _ _ _ _ l.invariant c.loop-i-test.true (omega arith) _ c.with_line-draft.ensures.draft _ c.is_bad.ensures.answer c.if-is_bad.true
           ∙ fed_begun c.args.self _ (not-false _ c.if-not-self.false);
     }
-
-pub next-gathering-requires : goal.next-gathering-requires
-next-gathering-requires c = tt
-
-pub take-gathering-requires : goal.take-gathering-requires
-take-gathering-requires c = tt
-
-pub is_bad-requires-else-chunk-i-eq10 : goal.is_bad-requires-else-chunk-i-eq10
-is_bad-requires-else-chunk-i-eq10 c = tt
-
-pub with_line-requires : goal.with_line-requires
-with_line-requires c = tt
 
 pub returns-then-is_bad-2 : goal.returns-then-is_bad-2
 returns-then-is_bad-2 c =
