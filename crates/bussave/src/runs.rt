@@ -56,13 +56,13 @@ fn is_behind(file: &File, records: u64) -> bool {
     }
 }
 
-// Writes what waits for the clean file, and says whether all of it is on the disk.
-fn close_clean(clean: Sink, made: &File, saved: &Block, records: u64) -> Closed {
+// Writes what waits for the clean file, says whether all of it is on the disk, and closes it, which it was handed for.
+fn close_clean(clean: Sink, made: File, saved: &Block, records: u64) -> Closed {
     let after = clean.flush(saved);
     if after.failed {
-        return Closed::Failed(failure_of(made));
+        return Closed::Failed(failure_of(&made));
     }
-    if !is_behind(made, records) {
+    if !is_behind(&made, records) {
         return Closed::Short;
     }
     match made.sync_all() {
@@ -86,10 +86,10 @@ impl Saving {
         }
     }
 
-    // Ends a saving of which every byte is settled. The clean file is on the disk first, so that "# end" says that it is whole.
+    // Ends a saving of which every byte is settled. The clean file is closed first, so that "# end" says that it is whole.
     fn end_whole(
         self,
-        made: &File,
+        made: File,
         totals: Totals,
         listing: &mut Block,
         saved: &Block,
@@ -127,7 +127,7 @@ impl Saving {
     // Ends a saving that came to the end of the file. Each byte that was read must have been settled.
     fn end_all(
         self,
-        made: &File,
+        made: File,
         listing: &mut Block,
         saved: &Block,
         damaged: &[u8],
@@ -150,7 +150,7 @@ impl Saving {
     // Ends a saving, whatever stopped it.
     fn finish(
         self,
-        made: &File,
+        made: File,
         listing: &mut Block,
         saved: &Block,
         damaged: &[u8],
@@ -163,7 +163,7 @@ impl Saving {
             }
             Fault::Lines => complain(&PROGRAM, b"standard output", listed.why),
             Fault::Clean => {
-                listed.fail(listing, &PROGRAM, clean, failure_of(made));
+                listed.fail(listing, &PROGRAM, clean, failure_of(&made));
             }
             Fault::Damaged(why) => {
                 listed.fail(listing, &PROGRAM, damaged, why);
@@ -179,7 +179,7 @@ impl Saving {
 fn save_chunks(
     first: Saving,
     input: Source<'_>,
-    made: &File,
+    made: File,
     chunk: &mut Block,
     listing: &mut Block,
     damaged: &[u8],
@@ -229,7 +229,7 @@ fn save_opened(
                 read: 0,
                 strays: Strays::none(),
             };
-            save_chunks(first, input, &made, &mut chunk, listing, damaged, clean)
+            save_chunks(first, input, made, &mut chunk, listing, damaged, clean)
         }
         Err(why) => fail(listed, listing, clean, why),
     }

@@ -63,14 +63,15 @@ fn turn(
     }
 }
 
-// Writes the line after the call of that number, where one is due.
-fn report(rt: HostRuntime, number: u64, calls: u64, every: u64, sum: u64) {
+// Writes the line after the call of that number, where one is due. Says whether somebody may still read.
+fn report(rt: HostRuntime, number: u64, calls: u64, every: u64, sum: u64) -> bool {
     if every == 0 {
-        return;
+        return true;
     }
     if (number % every == 0) | (number == calls) {
-        write_line(rt, number, sum);
+        return write_line(rt, number, sum);
     }
+    true
 }
 
 fn run(
@@ -90,7 +91,9 @@ fn run(
     while number < calls {
         number += 1;
         progress = turn(progress, number, seed, receive, transmit, copy);
-        report(rt, number, calls, every, progress.bench.sum);
+        if !report(rt, number, calls, every, progress.bench.sum) {
+            return;
+        }
     }
 }
 

@@ -1,5 +1,8 @@
 // The lines that the program writes.
-use std::io::Print;
+use std::io::{Print, Result};
+
+// the system's number for a pipe that nobody reads any more
+const BROKEN_PIPE: i32 = 32;
 
 // the number of standard error
 const ERRORS: i32 = 2;
@@ -19,14 +22,22 @@ fn capitals(number: u64) -> [u8; 16] {
     text
 }
 
-// "A line 'soak CALLS CHECKSUM'"
-pub(crate) fn write_line(rt: HostRuntime, calls: u64, sum: u64) {
+// Says whether somebody may still read, after a write. Any other failure is passed over.
+fn is_heard(written: Result<()>) -> bool {
+    match written {
+        Ok(()) => true,
+        Err(error) => error.raw_os_error().unwrap_or(0) != BROKEN_PIPE,
+    }
+}
+
+// "A line 'soak CALLS CHECKSUM'". Says whether somebody may still read.
+pub(crate) fn write_line(rt: HostRuntime, calls: u64, sum: u64) -> bool {
     let text = capitals(sum);
-    let _ = Print::write_all(&rt, b"soak ");
-    let _ = rt.print(calls);
-    let _ = Print::write_all(&rt, b" ");
-    let _ = Print::write_all(&rt, &text);
-    let _ = Print::write_all(&rt, b"\n");
+    is_heard(Print::write_all(&rt, b"soak "))
+        && is_heard(rt.print(calls))
+        && is_heard(Print::write_all(&rt, b" "))
+        && is_heard(Print::write_all(&rt, &text))
+        && is_heard(Print::write_all(&rt, b"\n"))
 }
 
 pub(crate) fn write_usage() {

@@ -6,14 +6,19 @@ ghost use Rattle.status.specs.Fronts.{descriptor_of, is_number, front_of, front_
 use crate::arguments::{ask, is_at};
 use crate::statuses::Status;
 use lines::{Number, Sink, Target, complain, number_of, read_decimal, remark};
-use std::fs::{OpenOptions, symlink_metadata};
+use std::fs::{OpenOptions, metadata, symlink_metadata};
 use std::io::{Print, Write};
+use std::os::unix::fs::{FileTypeExt, MetadataExt};
 
 const STDOUT: i32 = 1;
 
 const STDERR: i32 = 2;
 
-// the system's number for a pipe that nobody reads
+// the system's numbers for what fails, for a descriptor that is not open for that, and for a pipe that nobody reads
+const IO_ERROR: i32 = 5;
+
+const BAD_DESCRIPTOR: i32 = 9;
+
 const BROKEN_PIPE: i32 = 32;
 
 // that of CHANGELOG.md's first entry
@@ -68,28 +73,60 @@ fn path_of(fd: i32) -> ([u8; 28], usize)
     (path, 8 + count)
 }
 
-// Says whether a descriptor is open. One that is not would become that of the next file that is opened, and the digit would go there.
+// Says whether a descriptor is open. One that is not would become that of the next file that is opened, and the digit would go there. Where the system shows no
+// descriptors, each is taken for open.
 fn is_open(rt: HostRuntime, fd: i32) -> bool {
     let (path, length) = path_of(fd);
     match std::str::from_utf8(&path[..length]) {
-        Ok(text) => symlink_metadata(&rt, text).is_ok(),
-        Err(_) => false,
+        Ok(text) => symlink_metadata(&rt, text).is_ok() | metadata(&rt, "/dev/fd").is_err(),
+        Err(_) => true,
     }
 }
 
-// Gives the system's number for why a descriptor takes nothing, by a second try. Opened to read and write, a pipe that nobody reads is opened too, and takes all.
-fn failure_at(rt: HostRuntime, fd: i32, digit: u8) -> i32 {
-    let (path, length) = path_of(fd);
-    let Ok(text) = std::str::from_utf8(&path[..length]) else {
-        return 0;
-    };
-    match OpenOptions::new().read(true).write(true).open(&rt, text) {
-        Ok(mut file) => match file.write(&[digit]) {
-            Ok(_) => BROKEN_PIPE,
+// Says whether a descriptor is open for writing, as the system shows it: the one who has it may write to it.
+fn is_for_writing(rt: HostRuntime, path: &str) -> bool {
+    match symlink_metadata(&rt, path) {
+        Ok(shown) => shown.mode() & 0o200 != 0,
+        Err(_) => true,
+    }
+}
+
+// Gives the system's number for why a device takes nothing, by a second try: nothing that a device was sent can be lost by it.
+fn failure_of_device(rt: HostRuntime, path: &str, digit: u8) -> i32 {
+    match OpenOptions::new().write(true).open(&rt, path) {
+        Ok(mut device) => match device.write(&[digit]) {
+            Ok(_) => IO_ERROR,
             Err(error) => number_of(error),
         },
         Err(error) => number_of(error),
     }
+}
+
+// Gives the system's number for why the file at a path took nothing, by what it is: a file is not written to once more.
+fn failure_by_kind(rt: HostRuntime, path: &str, digit: u8) -> i32 {
+    let Ok(shown) = metadata(&rt, path) else {
+        return BAD_DESCRIPTOR;
+    };
+    let kind = shown.file_type();
+    if kind.is_char_device() {
+        return failure_of_device(rt, path, digit);
+    }
+    if kind.is_fifo() | kind.is_socket() {
+        return BROKEN_PIPE;
+    }
+    IO_ERROR
+}
+
+// Gives the system's number for why a descriptor took nothing.
+fn failure_at(rt: HostRuntime, fd: i32, digit: u8) -> i32 {
+    let (path, length) = path_of(fd);
+    let Ok(text) = std::str::from_utf8(&path[..length]) else {
+        return IO_ERROR;
+    };
+    if !is_for_writing(rt, text) {
+        return BAD_DESCRIPTOR;
+    }
+    failure_by_kind(rt, text, digit)
 }
 
 impl Front {
