@@ -3,6 +3,7 @@ pub mod Counts
 pub mod Flags
 pub mod Inverse
 pub mod Oddness
+pub mod Orders
 pub mod Spacings
 pub mod Sums
 pub mod Table

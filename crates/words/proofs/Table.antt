@@ -12,8 +12,9 @@ use Rattle.words.specs.Words.{transmit_of, code_of}
 use Rattle.words.specs.Modes.{rows, found, listing_of}
 use Rattle.words.specs.Theorems.{is_listed, how_many, FifteenListed, OnlyListed}
 use Rattle.words.specs.declared.modes.Listing.{Listing}
-use Rattle.words.specs.declared.modes.Listing.TheVariants.{Reserved, Listed}
-use Rattle.words.specs.declared.modes.ModeWord.TheVariants.{None, Sent, Received}
+use Rattle.words.specs.declared.modes.ModeWord.{ModeWord}
+use Rattle.words.specs.declared.modes.ModeWord.TheVariants.{Sent, Received}
+use Rattle.std.specs.Prelude.{Option, Some, None}
 use Rattle.words.proofs.Truth.{and_both, passes, passed}
 
 -- what the test says of a place is said of its T/R bit and its code
@@ -26,34 +27,45 @@ at_pair test all t c ht hc =
 
 -- ---- the letters of the code
 
--- what the code takes a letter for: 'n', 'b', 's', 'r', or any other
-unfoldable pub read_as : ℕ → Listing
-read_as letter =
-    cond (eqb letter 110) (Listed false None)
-    (cond (eqb letter 98) (Listed true None)
-    (cond (eqb letter 115) (Listed false Sent)
-    (cond (eqb letter 114) (Listed true Received) Reserved)))
+-- a row's two columns
+abbrev listed : Bool → Option ModeWord → Option Listing
+listed broadcast word = Some (record { broadcast = broadcast; word = word })
 
--- the letter of a listing, 0 where it has none
-letter_of : Listing → ℕ
-letter_of Reserved = 46
-letter_of (Listed false None) = 110
-letter_of (Listed true None) = 98
-letter_of (Listed false Sent) = 115
-letter_of (Listed true Sent) = 0
-letter_of (Listed false Received) = 0
-letter_of (Listed true Received) = 114
+-- what the code takes a letter for: 'n', 'b', 's', 'r', or any other
+unfoldable pub read_as : ℕ → Option Listing
+read_as letter =
+    cond (eqb letter 110) (listed false None)
+    (cond (eqb letter 98) (listed true None)
+    (cond (eqb letter 115) (listed false (Some Sent)) (cond (eqb letter 114) (listed true (Some Received)) None)))
+
+-- the letter of a row's two columns, 0 where it has none
+letter_in : Bool → Option ModeWord → ℕ
+letter_in false None = 110
+letter_in true None = 98
+letter_in false (Some Sent) = 115
+letter_in true (Some Sent) = 0
+letter_in false (Some Received) = 0
+letter_in true (Some Received) = 114
+
+-- the letter of what the table says
+letter_of : Option Listing → ℕ
+letter_of None = 46
+letter_of (Some l) = letter_in l.broadcast l.word
 
 -- a letter is taken for its listing
-letter_read : (l : Listing) → not (eqb (letter_of l) 0) ≡ true → read_as (letter_of l) ≡ l
+row_read : (broadcast : Bool) (word : Option ModeWord) → not (eqb (letter_in broadcast word) 0) ≡ true → read_as (letter_in broadcast word) ≡ listed broadcast word
+unfolding read_as letter_in
+row_read false None h = refl
+row_read true None h = refl
+row_read false (Some Sent) h = refl
+row_read true (Some Sent) h = absurd (true≢false (sym h))
+row_read false (Some Received) h = absurd (true≢false (sym h))
+row_read true (Some Received) h = refl
+
+letter_read : (l : Option Listing) → not (eqb (letter_of l) 0) ≡ true → read_as (letter_of l) ≡ l
 unfolding read_as letter_of
-letter_read Reserved h = refl
-letter_read (Listed false None) h = refl
-letter_read (Listed true None) h = refl
-letter_read (Listed false Sent) h = refl
-letter_read (Listed true Sent) h = absurd (true≢false (sym h))
-letter_read (Listed false Received) h = absurd (true≢false (sym h))
-letter_read (Listed true Received) h = refl
+letter_read None h = refl
+letter_read (Some l) h = row_read l.broadcast l.word h
 
 -- the letters, T/R 0 first
 abbrev pub letters : List ℕ
@@ -69,7 +81,7 @@ right : ℕ → ℕ → Bool
 right t c = eqb (get_or letters (t * 32 + c) 0) (letter_of (found t c rows)) && not (eqb (letter_of (found t c rows)) 0)
 
 all_right : passes 64 (λ (i : ℕ). right (i / 32) (i % 32)) ≡ true
-unfolding passes right letter_of found rows
+unfolding passes right letter_of letter_in found rows
 all_right = refl
 
 -- so the code takes it for what document 01 has there

@@ -1,5 +1,7 @@
 -- Document 01, "Numbers for a refused call", row by row, and those that document 02 adds. Assumes nothing.
 use Rattle.std.specs.Prelude.{ℕ}
+use Rattle.words.specs.declared.refusals.Refusal.{Refusal}
+use Rattle.words.specs.declared.refusals.Refusal.TheVariants.{TableSize, OwnAddress, ShortRecord, RecordLength, OutOfRange, OutOfOrder, ImpossiblePlan, WrongVersion, NoRoom, Schedule}
 
 -- no refusal (house)
 abbrev pub not_refused : ℕ
@@ -44,3 +46,16 @@ refused_no_room = 9
 -- 02 j: "more messages, another period or an impossible plan is refused with 15"
 abbrev pub refused_schedule : ℕ
 refused_schedule = 15
+
+-- The number of a refusal. None has `not_refused`, which is the number of a call that was not refused.
+abbrev pub number_of : Refusal → ℕ
+number_of TableSize = refused_table_size
+number_of OwnAddress = refused_own_address
+number_of ShortRecord = refused_short_record
+number_of RecordLength = refused_record_length
+number_of OutOfRange = refused_out_of_range
+number_of OutOfOrder = refused_out_of_order
+number_of ImpossiblePlan = refused_impossible_plan
+number_of WrongVersion = refused_wrong_version
+number_of NoRoom = refused_no_room
+number_of Schedule = refused_schedule

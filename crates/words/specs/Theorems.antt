@@ -1,10 +1,9 @@
 -- What holds of words beyond each function's own promise. Each is proved in proofs/ under the name at its side. Assumes nothing.
-use Rattle.std.specs.Prelude.{ℕ, zero, suc, ◌+◌, ◌-◌, ◌/◌, ◌%◌, ◌^◌, ◌<◌, ◌≡◌, Bool, true, false, not, cond, ◌&&◌, ◌||◌, eqb, ltb, leb}
+use Rattle.std.specs.Prelude.{ℕ, zero, suc, ◌+◌, ◌-◌, ◌/◌, ◌%◌, ◌^◌, ◌<◌, ◌≡◌, Bool, true, false, not, cond, ◌&&◌, ◌||◌, eqb, ltb, leb, Option, Some, None}
 use Rattle.words.specs.Words.{field_of, since_of, gap_of, spacing_least, spacing_most, is_spaced, spacing_of, is_overlapping, is_back_to_back, is_separated, distance_in, word_ticks, back_to_back_gap, due_distance, no_response_distance, address_of, transmit_of, subaddress_of, count_of, command_of, code_of, is_transmit, bit_of, has_flag, with_flag, flags_of, status_of, has_no_other, is_odd, parity_of, is_valid}
 use Rattle.words.specs.Modes.{rows, found, listing_of}
 use Rattle.words.specs.declared.statuses.Flag.{Flag}
 use Rattle.words.specs.declared.modes.Listing.{Listing}
-use Rattle.words.specs.declared.modes.Listing.TheVariants.{Reserved, Listed}
 
 -- "so back-to-back words have a gap of 20"; "plus 260, a gap of 80"; "a gap up to 140", which 320 is: gaps
 abbrev pub Gaps : Type 0
@@ -78,9 +77,9 @@ BitTurned =
     → ((place : ℕ) → place < 16 → is_valid sync faults (turned place word) parity ≡ false) × (is_valid sync faults word (1 - parity) ≡ false)
 
 -- The table lists it.
-unfoldable pub is_listed : Listing → Bool
-is_listed Reserved = false
-is_listed (Listed broadcast word) = true
+unfoldable pub is_listed : Option Listing → Bool
+is_listed None = false
+is_listed (Some listing) = true
 
 -- How many numbers below n pass a test.
 unfoldable pub how_many : ℕ → (ℕ → Bool) → ℕ

@@ -5,7 +5,7 @@ ghost use Rattle.words.specs.Words.{address_of, transmit_of, subaddress_of, coun
 use crate::fields::{field, placed};
 
 // A word read as a command: "neither must a command word and a status word" be mixable.
-#[derive(Clone, Copy)]
+#[derive(Clone, Copy, Debug, PartialEq, Eq)]
 pub struct CommandWord(pub u16);
 
 impl CommandWord {

@@ -4,20 +4,18 @@ ghost use Rattle.words.specs.Modes.{listing_of, is_allowed};
 
 use crate::commands::CommandWord;
 
-// The column "data word".
-#[derive(Clone, Copy)]
+// The column "data word", where it says that there is one.
+#[derive(Clone, Copy, Debug, PartialEq, Eq)]
 pub enum ModeWord {
-    None,
     Sent,
     Received,
 }
 
-// What the table says of a T/R bit and a code.
-#[derive(Clone, Copy)]
-pub enum Listing {
-    // "All else is reserved."
-    Reserved,
-    Listed { broadcast: bool, word: ModeWord },
+// What the table says of a T/R bit and a code that it lists: "All else is reserved."
+#[derive(Clone, Copy, Debug, PartialEq, Eq)]
+pub struct Listing {
+    pub broadcast: bool,
+    pub word: Option<ModeWord>,
 }
 
 // The table by T/R bit and code: T/R 0 with the codes 0 to 15 and 16 to 31, then T/R 1. '.' is reserved; 'n' and 'b' have no data word,
@@ -28,31 +26,19 @@ const ROWS: [u8; 64] = *b"\
 nbnbbbbbb.......\
 s.ss............";
 
-// Gives what the table says of the T/R bit and the code of a mode command.
+// Gives what the table says of the T/R bit and the code of a mode command, none where they are reserved.
 // Tables: none. Refusals: none.
-pub fn look_up(command: CommandWord) -> Listing
+pub fn look_up(command: CommandWord) -> Option<Listing>
     ensures listing { result ≡ listing_of command.0 }
 {
-    let row = ROWS[(command.transmit() * 32 + command.count()) as usize];
-    match row {
-        b'n' => Listing::Listed {
-            broadcast: false,
-            word: ModeWord::None,
-        },
-        b'b' => Listing::Listed {
-            broadcast: true,
-            word: ModeWord::None,
-        },
-        b's' => Listing::Listed {
-            broadcast: false,
-            word: ModeWord::Sent,
-        },
-        b'r' => Listing::Listed {
-            broadcast: true,
-            word: ModeWord::Received,
-        },
-        _ => Listing::Reserved,
-    }
+    let (broadcast, word) = match ROWS[(command.transmit() * 32 + command.count()) as usize] {
+        b'n' => (false, None),
+        b'b' => (true, None),
+        b's' => (false, Some(ModeWord::Sent)),
+        b'r' => (true, Some(ModeWord::Received)),
+        _ => return None,
+    };
+    Some(Listing { broadcast, word })
 }
 
 // Says whether the table allows the mode command: it is listed and, where it goes to 31, listed for broadcast. So are 20 and 21.
@@ -61,7 +47,7 @@ pub fn is_allowed(command: CommandWord) -> bool
     ensures answer { result ≡ is_allowed command.0 }
 {
     match look_up(command) {
-        Listing::Reserved => false,
-        Listing::Listed { broadcast, word: _ } => broadcast | !command.is_broadcast(),
+        None => false,
+        Some(listing) => listing.broadcast | !command.is_broadcast(),
     }
 }

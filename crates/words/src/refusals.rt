@@ -1,52 +1,50 @@
 // The numbers of a refused call (01 Numbers for a refused call). Later requests append; no number is given another meaning.
-// Meaning: specs/Refusals.antt.
-ghost use Rattle.std.specs.Prelude.{◌≡◌, [], ◌∷◌};
-ghost use Rattle.words.specs.Refusals.{not_refused, refused_table_size, refused_own_address, refused_short_record, refused_record_length, refused_out_of_range, refused_out_of_order, refused_impossible_plan, refused_wrong_version, refused_no_room, refused_schedule};
+// Meaning: specs/Refusals.antt. A call that can be refused gives a `Result`; a refusal is its error, and has a number for C and for a line.
+ghost use Rattle.std.specs.Prelude.{◌≡◌};
+ghost use Rattle.words.specs.Refusals.{number_of};
 
-// The number of a refusal, 0 where the call was not refused.
-#[derive(Clone, Copy)]
-pub struct Refusal(pub u8);
-
-impl Refusal {
-    // no refusal
-    pub const NONE: Refusal = Refusal(0);
+// Why a call was refused.
+#[derive(Clone, Copy, Debug, PartialEq, Eq)]
+pub enum Refusal {
     // "a lent word table is not 1,024 words, a lent mask table not 32 masks"
-    pub const TABLE_SIZE: Refusal = Refusal(1);
+    TableSize,
     // "own address above 30"
-    pub const OWN_ADDRESS: Refusal = Refusal(2);
+    OwnAddress,
     // "fewer than 16 bytes for a record"
-    pub const SHORT_RECORD: Refusal = Refusal(3);
+    ShortRecord,
     // "record length not 14"
-    pub const RECORD_LENGTH: Refusal = Refusal(4);
+    RecordLength,
     // "a field or a time out of range; in a verdict, a record of another bus than the plan's"
-    pub const OUT_OF_RANGE: Refusal = Refusal(5);
+    OutOfRange,
     // "event earlier than the last; returned record not later than the one before (E first) or after Q"
-    pub const OUT_OF_ORDER: Refusal = Refusal(6);
+    OutOfOrder,
     // "impossible plan"
-    pub const IMPOSSIBLE_PLAN: Refusal = Refusal(7);
+    ImpossiblePlan,
     // "version not 1, or no byte"
-    pub const WRONG_VERSION: Refusal = Refusal(8);
+    WrongVersion,
     // "fewer than 16 bytes to write a record"
-    pub const NO_ROOM: Refusal = Refusal(9);
+    NoRoom,
     // "more messages, another period or an impossible plan" in a schedule (02 j)
-    pub const SCHEDULE: Refusal = Refusal(15);
+    Schedule,
 }
 
-// Gives the numbers above. Nothing calls it: its promise holds each to the definition that contracts cite.
-fn list_numbers() -> [u8; 11]
-    ensures all { result ≡ not_refused ∷ refused_table_size ∷ refused_own_address ∷ refused_short_record ∷ refused_record_length ∷ refused_out_of_range ∷ refused_out_of_order ∷ refused_impossible_plan ∷ refused_wrong_version ∷ refused_no_room ∷ refused_schedule ∷ [] }
-{
-    [
-        Refusal::NONE.0,
-        Refusal::TABLE_SIZE.0,
-        Refusal::OWN_ADDRESS.0,
-        Refusal::SHORT_RECORD.0,
-        Refusal::RECORD_LENGTH.0,
-        Refusal::OUT_OF_RANGE.0,
-        Refusal::OUT_OF_ORDER.0,
-        Refusal::IMPOSSIBLE_PLAN.0,
-        Refusal::WRONG_VERSION.0,
-        Refusal::NO_ROOM.0,
-        Refusal::SCHEDULE.0,
-    ]
+impl Refusal {
+    // Gives the refusal's number; 0, which none has, is a call that was not refused.
+    // Tables: none. Refusals: none.
+    pub fn number(self) -> u8
+        ensures number { result ≡ number_of self }
+    {
+        match self {
+            Refusal::TableSize => 1,
+            Refusal::OwnAddress => 2,
+            Refusal::ShortRecord => 3,
+            Refusal::RecordLength => 4,
+            Refusal::OutOfRange => 5,
+            Refusal::OutOfOrder => 6,
+            Refusal::ImpossiblePlan => 7,
+            Refusal::WrongVersion => 8,
+            Refusal::NoRoom => 9,
+            Refusal::Schedule => 15,
+        }
+    }
 }

@@ -5,11 +5,11 @@ ghost use Rattle.words.specs.Words.{address_of, bit_of, has_flag, with_flag, fla
 use crate::fields::{field, placed};
 
 // A word read as a status: "neither must a command word and a status word" be mixable.
-#[derive(Clone, Copy)]
+#[derive(Clone, Copy, Debug, PartialEq, Eq)]
 pub struct StatusWord(pub u16);
 
 // The flags that the card sets. Instrumentation, the reserved bits and bus control acceptance are not among them.
-#[derive(Clone, Copy)]
+#[derive(Clone, Copy, Debug, PartialEq, Eq)]
 pub enum Flag {
     MessageError,
     ServiceRequest,

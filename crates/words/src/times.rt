@@ -5,11 +5,11 @@ ghost use Rattle.words.specs.Words.{on_clock, plus_of, since_of, gap_of, is_spac
 ghost use Rattle.words.specs.Words.{word_ticks, parity_middle, back_to_back_gap, spacing_least, spacing_most, due_distance, no_response_distance};
 
 // A moment, in "ticks of 0.1 microsecond". "A word's time is the zero crossing in the middle of its sync."
-#[derive(Clone, Copy)]
+#[derive(Clone, Copy, Debug, PartialEq, Eq, PartialOrd, Ord)]
 pub struct Moment(pub u64);
 
 // A length of time, in the same ticks. A moment minus a moment is ticks, a moment plus ticks a moment; nothing else mixes.
-#[derive(Clone, Copy)]
+#[derive(Clone, Copy, Debug, PartialEq, Eq, PartialOrd, Ord)]
 pub struct Ticks(pub u64);
 
 impl Ticks {
@@ -44,9 +44,6 @@ fn list_distances() -> [u64; 7]
     ]
 }
 
-// The last moment that 64 bits hold: where a sum that does not fit stays.
-const LAST: u64 = 0xFFFF_FFFF_FFFF_FFFF;
-
 impl Moment {
     // "0 to 2^48 - 1": the first moment that is past the clock
     pub const END: Moment = Moment(0x1_0000_0000_0000);
@@ -56,7 +53,7 @@ impl Moment {
     pub fn on_clock(self) -> bool
         ensures answer { result ≡ on_clock self.0 }
     {
-        self.0 < Self::END.0
+        self < Self::END
     }
 
     // Gives the moment that many ticks later, or the last that 64 bits hold.
@@ -64,11 +61,7 @@ impl Moment {
     pub fn plus(self, ticks: Ticks) -> Moment
         ensures later { result.0 ≡ plus_of self.0 ticks.0 }
     {
-        if ticks.0 <= LAST - self.0 {
-            Moment(self.0 + ticks.0)
-        } else {
-            Moment(LAST)
-        }
+        Moment(self.0.saturating_add(ticks.0))
     }
 
     // Gives the ticks from an earlier moment to this one, 0 where that one is later.
@@ -76,11 +69,7 @@ impl Moment {
     pub fn since(self, before: Moment) -> Ticks
         ensures distance { result.0 ≡ since_of before.0 self.0 }
     {
-        if before.0 <= self.0 {
-            Ticks(self.0 - before.0)
-        } else {
-            Ticks(0)
-        }
+        Ticks(self.0.saturating_sub(before.0))
     }
 }
 
@@ -93,7 +82,7 @@ pub fn gap(before: Moment, after: Moment) -> Ticks
 }
 
 // How a word stands to the one before it, with the distance (02 i).
-#[derive(Clone, Copy)]
+#[derive(Clone, Copy, Debug, PartialEq, Eq)]
 pub enum Spacing {
     // "overlapping (below 195)"
     Overlapping(Ticks),
@@ -108,11 +97,7 @@ impl Spacing {
     fn is_back_to_back(self) -> bool
         ensures answer { result ≡ is_back_to_back self }
     {
-        match self {
-            Spacing::Overlapping(_) => false,
-            Spacing::BackToBack(_) => true,
-            Spacing::Separated(_) => false,
-        }
+        matches!(self, Spacing::BackToBack(_))
     }
 }
 
@@ -123,10 +108,10 @@ pub fn spacing_between(before: Moment, after: Moment) -> Spacing
     ensures spacing { result ≡ spacing_of before.0 after.0 }
 {
     let distance = after.since(before);
-    if distance.0 < Ticks::SPACING_LEAST.0 {
+    if distance < Ticks::SPACING_LEAST {
         return Spacing::Overlapping(distance);
     }
-    if distance.0 <= Ticks::SPACING_MOST.0 {
+    if distance <= Ticks::SPACING_MOST {
         return Spacing::BackToBack(distance);
     }
     Spacing::Separated(distance)
