@@ -7,7 +7,7 @@ use native.Mathlib.Decide.{dec_le}
 use mathlib.Core.Logic.{dite}
 use mathlib.Core.List.{List, [], ◌∷◌, ◌++◌}
 use lib.ListN.{length, take, drop, length-append, length-take, length-drop, drop_of_length-le}
-use lib.Seq.{length-take-le, take_all, take-nil, take_at, take-append-add, take-append_seam, drop-drop, drop-append-add}
+use lib.Seq.{length-take-le, take_all, take-nil, take_at, take-add, take-append-add, take-append_seam, drop-drop, drop-append-add}
 use Rattle.windows.specs.Windows.{count_of, waiting_in, after_taking, front_window, front_room, with_more, taken_of, filled_of, filled_room}
 use Rattle.windows.specs.Theorems.{EmptyWaits, WaitingCount, TakenWaits, TakenCount, TakenInside, BehindWaits, FrontWaits, MoreWaits, FilledWaits, FilledFew, FilledSome}
 use Rattle.windows.specs.declared.windows.Window.{Window}
@@ -19,12 +19,6 @@ drop_take zero n s = ap (λ (k : ℕ). take k s) {x = n} {y = n - 0} (omega arit
 drop_take (suc m) zero s = ap (λ (k : ℕ). take k (drop (suc m) s)) {x = 0} {y = 0 - suc m} (omega arith)
 drop_take (suc m) (suc n) [] = sym (take-nil (suc n - suc m))
 drop_take (suc m) (suc n) (x ∷ s) = drop_take m n s ∙ ap (λ (k : ℕ). take k (drop m s)) {x = n - m} {y = suc n - suc m} (omega arith)
-
--- so many and then so many more
-take_both : (m n : ℕ) (s : List ℕ) → take (m + n) s ≡ take m s ++ take n (drop m s)
-take_both zero n s = ap (λ (k : ℕ). take k s) {x = 0 + n} {y = n} (omega arith)
-take_both (suc m) n [] = take-nil (suc m + n) ∙ sym (take-nil n)
-take_both (suc m) n (x ∷ s) = ap (λ (k : ℕ). take k (x ∷ s)) {x = suc m + n} {y = suc (m + n)} (omega arith) ∙ ap (λ (k : List ℕ). x ∷ k) (take_both m n s)
 
 -- ---- as the code finds them
 
@@ -60,17 +54,6 @@ module _ (w : Window) (room : List ℕ) (end begin : ℕ) (e : end ≡ min w.to 
   pub front_room_lem : (moved : List ℕ) → moved ≡ take (end - begin) (drop begin room) ++ drop (end - begin) room → moved ≡ front_room w room
   unfolding front_room
   front_room_lem moved m = m ∙ ap₂ (λ (s : List ℕ) (n : ℕ). s ++ drop n room) found (sym found_length)
-
--- ---- the code's steps
-
-pub after_taking_lem : (w : Window) (taken count least : ℕ) → count ≡ count_of w → least ≡ min taken count → record { from = w.from + least; to = w.to } ≡ after_taking w taken
-unfolding after_taking
-after_taking_lem w taken count least c l = rw (l, c)
-
-pub with_more_lem : (w : Window) (room : List ℕ) (came to least : ℕ) → to ≡ min w.to (length room) → least ≡ min came (length room - to)
-    → record { from = w.from; to = w.to + least } ≡ with_more w room came
-unfolding with_more
-with_more_lem w room came to least t l = ap (λ (n : ℕ). record { from = w.from; to = w.to + n }) {x = least} {y = min came (length room - w.to)} (omega arith)
 
 -- ---- what waits
 
@@ -140,7 +123,7 @@ more_waits w room came forward inside =
       same_size = refl;
       waiting =
           ap (λ (k : ℕ). take k (drop w.from room)) {x = w.to + n - w.from} {y = w.to - w.from + n} (omega arith)
-          ∙ take_both (w.to - w.from) n (drop w.from room)
+          ∙ take-add (w.to - w.from) n (drop w.from room)
           ∙ ap (λ (k : List ℕ). waiting_in w room ++ take n k) behind
           ∙ ap (λ (k : List ℕ). waiting_in w room ++ k) few;
     }

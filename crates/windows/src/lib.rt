@@ -3,7 +3,6 @@
 // room are taken.
 #![tactic(auto)]
 
-mod rooms;
 mod windows;
 
 pub use windows::{Filled, Window};

@@ -1,10 +1,9 @@
 // The window: which bytes of a room wait. Meaning: specs/Windows.antt. Refusals: none.
-ghost use Rattle.std.specs.Prelude.{◌≡◌};
+ghost use Rattle.std.specs.Prelude.{◌≡◌, ◌++◌, ◌+◌, ◌-◌, ◌≤◌, min, length, take, drop};
 ghost use Rattle.windows.specs.Windows.{empty_window, count_of, waiting_in, after_taking, front_window, front_room, with_more, filled_of, filled_room};
 
-use crate::rooms::{least, move_front, put_behind};
-
-// The bytes of a room from one place up to another wait. The room is lent anew with each call, and is always the same one.
+// The bytes of a room from one place up to another wait. The room is lent anew with each call, and is always the same one: a table of the library's own would need the
+// heap, and one kept as `&mut` could not be read from outside meanwhile.
 #[derive(Clone, Copy)]
 pub struct Window {
     pub from: usize,
@@ -16,6 +15,17 @@ pub struct Window {
 pub struct Filled {
     pub window: Window,
     pub taken: usize,
+}
+
+// Puts as many bytes of the chunk into the room from a place on as it has room for, and gives how many.
+fn put_behind(room: &mut [u8], at: usize, chunk: &[u8]) -> usize
+    requires { at ≤ length room.old }
+    ensures taken { result ≡ min (length room.old - at) (length chunk.now) }
+    ensures room { room.new ≡ take at room.old ++ (take result chunk.now ++ drop (at + result) room.old) }
+{
+    let count = chunk.len().min(room.len() - at);
+    room[at..at + count].copy_from_slice(&chunk[..count]);
+    count
 }
 
 impl Window {
@@ -32,10 +42,7 @@ impl Window {
     pub fn count(self) -> usize
         ensures count { result ≡ count_of self }
     {
-        if self.to < self.from {
-            return 0;
-        }
-        self.to - self.from
+        self.to.saturating_sub(self.from)
     }
 
     // Gives the bytes that wait.
@@ -43,18 +50,19 @@ impl Window {
     pub fn bytes(self, room: &[u8]) -> &[u8]
         ensures bytes { result.now ≡ waiting_in self room.now }
     {
-        let end = least(self.to, room.len());
-        let begin = least(self.from, end);
+        let end = self.to.min(room.len());
+        let begin = self.from.min(end);
         &room[begin..end]
     }
 
     // Gives the window where so many of the bytes are taken, the first ones: no more than wait.
     // Tables: none. Refusals: none.
+    #[tactic(auto, unfolding(crate::specs::Windows::after_taking))]
     pub fn after(self, taken: usize) -> Window
         ensures window { result ≡ after_taking self taken }
     {
         Window {
-            from: self.from + least(taken, self.count()),
+            from: self.from + taken.min(self.count()),
             to: self.to,
         }
     }
@@ -65,25 +73,25 @@ impl Window {
         ensures window { result ≡ front_window self room.old }
         ensures room { room.new ≡ front_room self room.old }
     {
-        let end = least(self.to, room.len());
-        let begin = least(self.from, end);
-        let waiting = end - begin;
-        move_front(room, begin, waiting);
+        let end = self.to.min(room.len());
+        let begin = self.from.min(end);
+        room.copy_within(begin..end, 0);
         Window {
             from: 0,
-            to: waiting,
+            to: end - begin,
         }
     }
 
     // Gives the window where so many bytes more have come right behind those that wait: no more than the room has there.
     // Tables: room is only read. Refusals: none.
+    #[tactic(auto, unfolding(crate::specs::Windows::with_more))]
     pub fn with_more(self, room: &[u8], came: usize) -> Window
         ensures window { result ≡ with_more self room.now came }
     {
-        let to = least(self.to, room.len());
+        let to = self.to.min(room.len());
         Window {
             from: self.from,
-            to: self.to + least(came, room.len() - to),
+            to: self.to + came.min(room.len() - to),
         }
     }
 

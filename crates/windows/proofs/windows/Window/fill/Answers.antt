@@ -7,4 +7,4 @@ pub put_behind-taken-requires : goal.put_behind-taken-requires
 put_behind-taken-requires c = search (front_inside, rules)
 
 pub returns : goal.returns
-returns c = record { filled = search (filled_of_lem, filled_room_lem, rules); room = search (filled_of_lem, filled_room_lem, rules) }
+returns c = record { filled = search (filled_of_lem, rules); room = search (filled_room_lem, rules) }

@@ -4,4 +4,4 @@ use borrow.Author.Rules.{rules}
 use Rattle.windows.proofs.windows.Window.make_room.Goals as goal
 
 pub returns : goal.returns
-returns c = record { window = search (front_window_lem, front_room_lem, rules); room = search (front_window_lem, front_room_lem, rules) }
+returns c = record { window = search (front_window_lem, rules); room = search (front_room_lem, rules) }

@@ -1,7 +1,0 @@
--- The law of the part of the room that is copied to. Assumes nothing.
-use Rattle.std.proofs.Common.{arith}
-use Rattle.windows.proofs.Shifts.{filled}
-use Rattle.windows.proofs.rooms.put_behind.Goals as goal
-
-pub returns : goal.returns
-returns c = record { taken = c.least-count.ensures.least; room = filled _ _ _ _ _ _ (omega arith) c.copy_from_slice.ensures.after }
