@@ -9,11 +9,12 @@ use lib.ListN.{length, get_or, take, drop, length-append, length-take, length-dr
 use lib.Seq.{take-append-le}
 use lib.Dec.{ltb, eqb}
 use borrow.Author.Tests.{ltb-false, eqb-true, le-ltb}
+use Rattle.words.specs.declared.refusals.Refusal.TheVariants.{ShortRecord, RecordLength, OutOfRange}
+use Rattle.std.specs.Prelude.{Ok, Err}
 use Rattle.records.specs.Numbers.{number_after, number_of, bytes_of}
-use Rattle.records.specs.Records.{last_bus, in_range, record_at, read_of, form_of, write_refusal, written_of}
+use Rattle.records.specs.Records.{last_bus, in_range, record_at, read_of, form_of, refusal_of, writes, written_of}
 use Rattle.records.specs.Theorems.{Bytes, ReadWritten, WriteRead, OnlyForm, ReadFits, OneForm, RefusedExactly}
 use Rattle.records.specs.declared.forms.WordRecord.{WordRecord}
-use Rattle.records.specs.declared.forms.Read.TheVariants.{Record, Refused}
 use Rattle.records.proofs.Digits.{bytes_take, bytes_drop, number_lt, number_bytes, bytes_number}
 use Rattle.records.proofs.Ranges.{in_range_time}
 use Rattle.records.proofs.Cases.{short, bad_length, bad_field, good, written}
@@ -34,13 +35,13 @@ read_written last r after fits =
     let s = form_of r ++ after in
     let time : r.time.0 < 256 ^ 8 = omega (arith, in_range_time last r fits.ranged) in
     let back : record_at s ≡ r = rw (number_bytes 8 r.time.0 time, number_bytes 2 r.word fits.sixteen) in
-    (refused_exactly last s).no_other (omega arith) refl (ap (in_range last) back ∙ fits.ranged) ∙ ap Record back
+    (refused_exactly last s).no_other (omega arith) refl (ap (in_range last) back ∙ fits.ranged) ∙ ap Ok back
 
 pub write_read : WriteRead
 unfolding written_of
 write_read r bytes fits l =
-    let none : write_refusal r bytes ≡ 0 = sym (written r bytes l refl fits.ranged) in
-    (none, rw none (read_written last_bus r (drop 16 bytes) fits), rw none refl)
+    let none : writes r bytes ≡ Ok tt = sym (written r bytes l refl fits.ranged) in
+    (ap refusal_of none, rw none (read_written last_bus r (drop 16 bytes) fits), rw none refl)
 
 -- ---- one form
 
@@ -52,14 +53,14 @@ pub record Good (last : ℕ) (s : List ℕ) (r : WordRecord) : Type 0 where
   pub same : record_at s ≡ r
 
 good_by : (last : ℕ) (s : List ℕ) (r : WordRecord) (a b e : Bool) → ltb (length s) 16 ≡ a → eqb (number_of (take 2 s)) 14 ≡ b → in_range last (record_at s) ≡ e
-    → cond a (Refused (record { 0 = 3 })) (cond b (cond e (Record (record_at s)) (Refused (record { 0 = 5 }))) (Refused (record { 0 = 4 }))) ≡ Record r → Good last s r
+    → cond a (Err ShortRecord) (cond b (cond e (Ok (record_at s)) (Err OutOfRange)) (Err RecordLength)) ≡ Ok r → Good last s r
 good_by last s r true b e p q t h = let z : ◌≡◌ {A = ℕ} 0 1 = cc in absurd (omega arith)
 good_by last s r false false e p q t h = let z : ◌≡◌ {A = ℕ} 0 1 = cc in absurd (omega arith)
 good_by last s r false true false p q t h = let z : ◌≡◌ {A = ℕ} 0 1 = cc in absurd (omega arith)
 good_by last s r false true true p q t h =
     record { long = ltb-false (length s) 16 p; length_right = eqb-true (number_of (take 2 s)) 14 q; ranged = t; same = cc }
 
-pub read_good : (last : ℕ) (s : List ℕ) (r : WordRecord) → read_of last s ≡ Record r → Good last s r
+pub read_good : (last : ℕ) (s : List ℕ) (r : WordRecord) → read_of last s ≡ Ok r → Good last s r
 unfolding read_of
 read_good last s r h = good_by last s r (ltb (length s) 16) (eqb (number_of (take 2 s)) 14) (in_range last (record_at s)) refl refl refl h
 
@@ -83,7 +84,7 @@ read_front last s after l =
     let length_same : take 2 (s ++ after) ≡ take 2 s = take-append-le 2 s after (omega arith) in
     rw (le-ltb _ _ long, le-ltb _ _ l)
     (ap₂
-    (λ (two : List ℕ) (r : WordRecord). cond (eqb (number_of two) 14) (cond (in_range last r) (Record r) (Refused (record { 0 = 5 }))) (Refused (record { 0 = 4 })))
+    (λ (two : List ℕ) (r : WordRecord). cond (eqb (number_of two) 14) (cond (in_range last r) (Ok r) (Err OutOfRange)) (Err RecordLength))
     length_same record_same)
 
 -- 16 bytes with the right length are the form of the record that they spell

@@ -12,24 +12,23 @@ use lib.ListN.{length, drop, length-drop, drop_of_length-le, take-append-drop}
 use lib.Seq.{drop-drop}
 use borrow.Author.Tests.{eqb-true, ne_eqb, le-leb, lt-leb}
 use Rattle.words.specs.declared.refusals.Refusal.{Refusal}
+use Rattle.words.specs.declared.refusals.Refusal.TheVariants.{WrongVersion}
+use Rattle.std.specs.Prelude.{Result, Ok, Err}
 use Rattle.records.specs.Numbers.{number_after}
 use Rattle.records.specs.Records.{form_of, read_of}
 use Rattle.records.specs.Files.{version, last_bus_of, forms_of, file_of, open_of, step_from, next_of, Walk, whole, stops, go_on, walk_from, walk_at, walk_of}
 use Rattle.records.specs.Theorems.{Bytes, AllFit, step_of, NextWalk, FileWritten, FileStops, OnlyFile, Example}
 use Rattle.records.specs.declared.forms.WordRecord.{WordRecord}
-use Rattle.records.specs.declared.forms.Read.{Read}
-use Rattle.records.specs.declared.forms.Read.TheVariants.{Record, Refused}
 use Rattle.records.specs.declared.files.Cursor.{Cursor}
-use Rattle.records.specs.declared.files.Opened.TheVariants as opened
 use Rattle.records.proofs.Digits.{bytes_drop}
 use Rattle.records.proofs.Theorems.{read_written, only_form}
 use Rattle.records.proofs.Walks.{walk_none, walk_some}
 
 -- ---- the cursor's steps are the walk's
 
-from_step : (c : Cursor) (g : Read) (w : Cursor → Walk) → step_of (step_from c g) w ≡ go_on g (w (record { at = c.at + 16; last_bus = c.last_bus }))
-from_step c (Record r) w = refl
-from_step c (Refused n) w = refl
+from_step : (c : Cursor) (g : Result WordRecord Refusal) (w : Cursor → Walk) → step_of (step_from c g) w ≡ go_on g (w (record { at = c.at + 16; last_bus = c.last_bus }))
+from_step c (Ok r) w = refl
+from_step c (Err n) w = refl
 
 pub next_walk : NextWalk
 unfolding next_of
@@ -59,10 +58,10 @@ file_written rs fit = forms_walk (last_bus_of version) (length (file_of rs)) rs 
 
 -- ---- a file that stops
 
-forms_stop : (last n : ℕ) (rs : List WordRecord) (rest : List ℕ) (k : Refusal) → length (forms_of rs ++ rest) ≤ n → AllFit last rs → 0 < length rest → read_of last rest ≡ Refused k → walk_from last n (forms_of rs ++ rest) ≡ stops k
+forms_stop : (last n : ℕ) (rs : List WordRecord) (rest : List ℕ) (k : Refusal) → length (forms_of rs ++ rest) ≤ n → AllFit last rs → 0 < length rest → read_of last rest ≡ Err k → walk_from last n (forms_of rs ++ rest) ≡ stops k
 unfolding forms_of
 forms_stop last zero [] rest k l fit some e = absurd (omega arith)
-forms_stop last (suc n) [] rest k l fit some e = walk_some last n rest some ∙ ap (λ (g : Read). go_on g (walk_from last n (drop 16 rest))) e
+forms_stop last (suc n) [] rest k l fit some e = walk_some last n rest some ∙ ap (λ (g : Result WordRecord Refusal). go_on g (walk_from last n (drop 16 rest))) e
 forms_stop last zero (r ∷ rs) rest k l fit some e = absurd (omega arith)
 forms_stop last (suc n) (r ∷ rs) rest k l fit some e =
     let bytes : (form_of r ++ forms_of rs) ++ rest ≡ form_of r ++ (forms_of rs ++ rest) = append_assoc (form_of r) (forms_of rs) rest in
@@ -84,11 +83,11 @@ never : (n : Refusal) (rs : List WordRecord) → stops n ≡ whole rs → ⊥
 never n rs h = let z : ◌≡◌ {A = ℕ} 0 1 = cc in omega arith
 
 -- by what stands first and what follows it
-held_by : (last : ℕ) (s : List ℕ) (rs : List WordRecord) (g : Read) (w : Walk) → Bytes s → read_of last s ≡ g → ((ts : List WordRecord) → w ≡ whole ts → drop 16 s ≡ forms_of ts) → go_on g w ≡ whole rs → s ≡ forms_of rs
+held_by : (last : ℕ) (s : List ℕ) (rs : List WordRecord) (g : Result WordRecord Refusal) (w : Walk) → Bytes s → read_of last s ≡ g → ((ts : List WordRecord) → w ≡ whole ts → drop 16 s ≡ forms_of ts) → go_on g w ≡ whole rs → s ≡ forms_of rs
 unfolding forms_of
-held_by last s rs (Refused n) w h e rest q = absurd (never n rs q)
-held_by last s rs (Record r) (stops n) h e rest q = absurd (never n rs q)
-held_by last s rs (Record r) (whole ts) h e rest q =
+held_by last s rs (Err n) w h e rest q = absurd (never n rs q)
+held_by last s rs (Ok r) (stops n) h e rest q = absurd (never n rs q)
+held_by last s rs (Ok r) (whole ts) h e rest q =
     let all : rs ≡ r ∷ ts = cc in
     sym (take-append-drop 16 s) ∙ ap₂ ◌++◌ (only_form last s r h e) (rest ts refl) ∙ sym (ap forms_of all)
 
@@ -110,13 +109,13 @@ walk_held last (suc n) (x ∷ s) rs l h q =
 
 -- by whether the first byte is the version
 file_by : (x : ℕ) (s : List ℕ) (rs : List WordRecord) (b : Bool) → eqb x 1 ≡ b → Bytes (x ∷ s)
-    → walk_at (cond b (opened.At (record { at = 1; last_bus = last_bus_of x })) (opened.Refused (record { 0 = 8 }))) (x ∷ s) ≡ whole rs → x ∷ s ≡ file_of rs
+    → walk_at (cond b (Ok (record { at = 1; last_bus = last_bus_of x })) (Err WrongVersion)) (x ∷ s) ≡ whole rs → x ∷ s ≡ file_of rs
 file_by x s rs true e h q = ap₂ ◌∷◌ (eqb-true x 1 e) (walk_held (last_bus_of x) (suc (length s)) s rs (omega arith) (λ i. h (suc i)) q)
-file_by x s rs false e h q = absurd (never (record { 0 = 8 }) rs q)
+file_by x s rs false e h q = absurd (never WrongVersion rs q)
 
 pub only_file : OnlyFile
 unfolding walk_of open_of
-only_file [] rs h q = absurd (never (record { 0 = 8 }) rs q)
+only_file [] rs h q = absurd (never WrongVersion rs q)
 only_file (x ∷ s) rs h q = file_by x s rs (eqb x 1) refl h q
 
 -- ---- the example of document 01

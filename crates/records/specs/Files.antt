@@ -1,18 +1,10 @@
 -- Document 01, "Word records on file (house)" and "Reading a file": a file of records. Assumes nothing.
-use Rattle.std.specs.Prelude.{ℕ, zero, suc, ◌+◌, cond, List, [], ◌∷◌, ◌++◌, leb, eqb, length, drop}
-use Rattle.words.specs.Refusals.{refused_wrong_version}
+use Rattle.std.specs.Prelude.{ℕ, zero, suc, ◌+◌, cond, List, [], ◌∷◌, ◌++◌, leb, eqb, length, drop, Option, Some, None, Result, Ok, Err}
 use Rattle.words.specs.declared.refusals.Refusal.{Refusal}
+use Rattle.words.specs.declared.refusals.Refusal.TheVariants.{WrongVersion}
 use Rattle.records.specs.Records.{record_bytes, last_bus, form_of, read_of}
 use Rattle.records.specs.declared.forms.WordRecord.{WordRecord}
-use Rattle.records.specs.declared.forms.Read.{Read}
-use Rattle.records.specs.declared.forms.Read.TheVariants as read
 use Rattle.records.specs.declared.files.Cursor.{Cursor}
-use Rattle.records.specs.declared.files.Opened.{Opened}
-use Rattle.records.specs.declared.files.Opened.TheVariants as opened
-use Rattle.records.specs.declared.files.Next.{Next}
-use Rattle.records.specs.declared.files.Next.TheVariants as next
-use Rattle.records.specs.declared.files.Counted.{Counted}
-use Rattle.records.specs.declared.files.Counted.TheVariants as counted
 
 -- "One version byte, 1, opens the file."
 abbrev pub version : ℕ
@@ -31,17 +23,17 @@ abbrev pub file_of : List WordRecord → List ℕ
 file_of rs = version ∷ forms_of rs
 
 -- "version not 1, or no byte": 8
-unfoldable pub open_of : List ℕ → Opened
-open_of [] = opened.Refused (record { 0 = refused_wrong_version })
-open_of (first ∷ rest) = cond (eqb first version) (opened.At (record { at = 1; last_bus = last_bus_of first })) (opened.Refused (record { 0 = refused_wrong_version }))
+unfoldable pub open_of : List ℕ → Result Cursor Refusal
+open_of [] = Err WrongVersion
+open_of (first ∷ rest) = cond (eqb first version) (Ok (record { at = 1; last_bus = last_bus_of first })) (Err WrongVersion)
 
 -- "then record by record 3, 4, 5; no byte left is its end"
-abbrev pub step_from : Cursor → Read → Next
-step_from c (read.Record r) = next.Record r (record { at = c.at + record_bytes; last_bus = c.last_bus })
-step_from c (read.Refused n) = next.Refused n
+abbrev pub step_from : Cursor → Result WordRecord Refusal → Result (Option (WordRecord × Cursor)) Refusal
+step_from c (Ok r) = Ok (Some (r, record { at = c.at + record_bytes; last_bus = c.last_bus }))
+step_from c (Err n) = Err n
 
-unfoldable pub next_of : List ℕ → Cursor → Next
-next_of file c = cond (leb (length file) c.at) next.End (step_from c (read_of c.last_bus (drop c.at file)))
+unfoldable pub next_of : List ℕ → Cursor → Result (Option (WordRecord × Cursor)) Refusal
+next_of file c = cond (leb (length file) c.at) (Ok None) (step_from c (read_of c.last_bus (drop c.at file)))
 
 -- The whole walk: all records, or the first refusal.
 pub data Walk : Type 0 where
@@ -52,9 +44,9 @@ abbrev pub with : WordRecord → Walk → Walk
 with r (whole rs) = whole (r ∷ rs)
 with r (stops n) = stops n
 
-abbrev pub go_on : Read → Walk → Walk
-go_on (read.Record r) rest = with r rest
-go_on (read.Refused n) rest = stops n
+abbrev pub go_on : Result WordRecord Refusal → Walk → Walk
+go_on (Ok r) rest = with r rest
+go_on (Err n) rest = stops n
 
 -- Of bytes, at most n records, where `last` is the last bus. There are never more records than bytes, so the first line is reached at the
 -- end alone: `only_file`.
@@ -67,16 +59,16 @@ walk_from last (suc n) bytes =
 abbrev pub walk_by : Cursor → List ℕ → Walk
 walk_by c file = walk_from c.last_bus (length file) (drop c.at file)
 
-abbrev pub walk_at : Opened → List ℕ → Walk
-walk_at (opened.At c) file = walk_by c file
-walk_at (opened.Refused n) file = stops n
+abbrev pub walk_at : Result Cursor Refusal → List ℕ → Walk
+walk_at (Ok c) file = walk_by c file
+walk_at (Err n) file = stops n
 
 unfoldable pub walk_of : List ℕ → Walk
 walk_of file = walk_at (open_of file) file
 
-abbrev pub counts : Walk → Counted
-counts (whole rs) = counted.Records (length rs)
-counts (stops n) = counted.Refused n
+abbrev pub counts : Walk → Result ℕ Refusal
+counts (whole rs) = Ok (length rs)
+counts (stops n) = Err n
 
-unfoldable pub counted_of : List ℕ → Counted
+unfoldable pub counted_of : List ℕ → Result ℕ Refusal
 counted_of file = counts (walk_of file)

@@ -1,11 +1,11 @@
 -- Document 01, "Word records on file (house)": one record. Bytes are numbers below 256. Assumes nothing.
-use Rattle.std.specs.Prelude.{ℕ, Bool, cond, ◌&&◌, List, [], ◌∷◌, ◌++◌, ltb, leb, eqb, length, get_or, take, drop}
+use Rattle.std.specs.Prelude.{ℕ, Bool, cond, ◌&&◌, List, [], ◌∷◌, ◌++◌, ltb, leb, eqb, length, get_or, take, drop, Result, Ok, Err, ⊤}
 use Rattle.words.specs.Words.{on_clock}
-use Rattle.words.specs.Refusals.{not_refused, refused_short_record, refused_record_length, refused_out_of_range, refused_no_room}
+use Rattle.words.specs.Refusals.{not_refused, number_of as refusal_number}
+use Rattle.words.specs.declared.refusals.Refusal.{Refusal}
+use Rattle.words.specs.declared.refusals.Refusal.TheVariants.{ShortRecord, RecordLength, OutOfRange, NoRoom}
 use Rattle.records.specs.Numbers.{number_of, bytes_of}
 use Rattle.records.specs.declared.forms.WordRecord.{WordRecord}
-use Rattle.records.specs.declared.forms.Read.{Read}
-use Rattle.records.specs.declared.forms.Read.TheVariants.{Record, Refused}
 
 -- "Each record: length (2 bytes, always 14)", in all 16 bytes.
 abbrev pub length_number : ℕ
@@ -41,21 +41,24 @@ record_at bytes = record {
 }
 
 -- Reading, where `last` is the last bus: "fewer than 16 bytes for a record" 3, "record length not 14" 4, "a field or a time out of range" 5.
-unfoldable pub read_of : ℕ → List ℕ → Read
+unfoldable pub read_of : ℕ → List ℕ → Result WordRecord Refusal
 read_of last bytes =
-    cond (ltb (length bytes) record_bytes) (Refused (record { 0 = refused_short_record }))
+    cond (ltb (length bytes) record_bytes) (Err ShortRecord)
     (cond (eqb (number_of (take 2 bytes)) length_number)
-    (cond (in_range last (record_at bytes)) (Record (record_at bytes)) (Refused (record { 0 = refused_out_of_range })))
-    (Refused (record { 0 = refused_record_length })))
+    (cond (in_range last (record_at bytes)) (Ok (record_at bytes)) (Err OutOfRange))
+    (Err RecordLength))
 
 -- The number of a refusal, 0 where there is none.
-abbrev pub refusal_of : Read → ℕ
-refusal_of (Record r) = not_refused
-refusal_of (Refused n) = n.0
+abbrev pub refusal_of : {T : Type 0} → Result T Refusal → ℕ
+refusal_of (Ok value) = not_refused
+refusal_of (Err refusal) = refusal_number refusal
 
 -- "Writing: 9, 5.": "fewer than 16 bytes to write a record", then "a field or a time out of range".
-unfoldable pub write_refusal : WordRecord → List ℕ → ℕ
-write_refusal r bytes = cond (ltb (length bytes) record_bytes) refused_no_room (cond (in_range last_bus r) not_refused refused_out_of_range)
+unfoldable pub writes : WordRecord → List ℕ → Result ⊤ Refusal
+writes r bytes = cond (ltb (length bytes) record_bytes) (Err NoRoom) (cond (in_range last_bus r) (Ok tt) (Err OutOfRange))
+
+abbrev pub write_refusal : WordRecord → List ℕ → ℕ
+write_refusal r bytes = refusal_of (writes r bytes)
 
 -- The first 16 bytes are the form, all others as before. "A refusal gives its number and nothing else; state, tables and buffers stay."
 unfoldable pub written_of : WordRecord → List ℕ → List ℕ

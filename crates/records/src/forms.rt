@@ -1,7 +1,7 @@
 // One word record: its range, its 16 bytes, read and written (01 Word records on file). Meaning: specs/Records.antt.
 // Refusals: 3, 4, 5 reading; 9, 5 writing.
 ghost use Rattle.std.specs.Prelude.{◌≡◌, ◌≤◌, length};
-ghost use Rattle.records.specs.Records.{in_range, form_of, record_at, read_of, write_refusal, written_of};
+ghost use Rattle.records.specs.Records.{in_range, form_of, record_at, read_of, writes, written_of};
 
 use crate::numbers::{number_eight, number_two};
 use words::{Moment, Refusal};
@@ -71,31 +71,23 @@ impl WordRecord {
         ]
     }
 
-    // Gives no refusal and writes the record at the front of the bytes, or gives the number of the refusal.
+    // Writes the record at the front of the bytes, or gives the refusal.
     // Tables: the first 16 of bytes are the record's form, all others as before; after a refusal every byte is as before.
     // Refusals: 9, fewer than 16 bytes; 5, a field or the time out of range.
-    pub fn write(self, bytes: &mut [u8]) -> Refusal
-        ensures refusal { result.0 ≡ write_refusal self bytes.old }
+    pub fn write(self, bytes: &mut [u8]) -> Result<(), Refusal>
+        ensures refusal { result ≡ writes self bytes.old }
         ensures bytes { bytes.new ≡ written_of self bytes.old }
     {
         if bytes.len() < RECORD_BYTES {
-            return Refusal::NO_ROOM;
+            return Err(Refusal::NoRoom);
         }
-        if self.in_range(LAST_BUS) {
-            let form = self.form();
-            bytes[..RECORD_BYTES].copy_from_slice(&form);
-            Refusal::NONE
-        } else {
-            Refusal::OUT_OF_RANGE
+        if !self.in_range(LAST_BUS) {
+            return Err(Refusal::OutOfRange);
         }
+        let form = self.form();
+        bytes[..RECORD_BYTES].copy_from_slice(&form);
+        Ok(())
     }
-}
-
-// What reading gives: a record in range, or the number of the refusal.
-#[derive(Clone, Copy)]
-pub enum Read {
-    Record(WordRecord),
-    Refused(Refusal),
 }
 
 // Gives the record that 16 bytes spell, in range or not.
@@ -117,19 +109,18 @@ fn spelled(bytes: &[u8]) -> WordRecord
 
 // Gives the record at the front of the bytes, the bus at most the last one; what stands after it is not looked at.
 // Tables: bytes is only read. Refusals: 3, fewer than 16 bytes; 4, length not 14; 5, a field or the time out of range.
-pub fn read_record(bytes: &[u8], last_bus: u8) -> Read
+pub fn read_record(bytes: &[u8], last_bus: u8) -> Result<WordRecord, Refusal>
     ensures read { result ≡ read_of last_bus bytes.now }
 {
     if bytes.len() < RECORD_BYTES {
-        return Read::Refused(Refusal::SHORT_RECORD);
+        return Err(Refusal::ShortRecord);
     }
     if number_two(bytes) != LENGTH {
-        return Read::Refused(Refusal::RECORD_LENGTH);
+        return Err(Refusal::RecordLength);
     }
     let record = spelled(bytes);
-    if record.in_range(last_bus) {
-        Read::Record(record)
-    } else {
-        Read::Refused(Refusal::OUT_OF_RANGE)
+    if !record.in_range(last_bus) {
+        return Err(Refusal::OutOfRange);
     }
+    Ok(record)
 }

@@ -6,5 +6,5 @@ mod files;
 mod forms;
 mod numbers;
 
-pub use files::{Counted, Cursor, Next, Opened, VERSION, count_records, open_file};
-pub use forms::{LAST_BUS, RECORD_BYTES, Read, WordRecord, read_record};
+pub use files::{Cursor, VERSION, count_records, open_file};
+pub use forms::{LAST_BUS, RECORD_BYTES, WordRecord, read_record};

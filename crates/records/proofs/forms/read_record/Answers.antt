@@ -9,8 +9,8 @@ returns-then-bytes-lt-RECORD_BYTES c = record { read = search (short, rules) }
 pub returns-then-number_two-ne-LENGTH : goal.returns-then-number_two-ne-LENGTH
 returns-then-number_two-ne-LENGTH c = record { read = search (bad_length, rules) }
 
-pub returns-then-in_range : goal.returns-then-in_range
-returns-then-in_range c = record { read = search (good, rules) }
+pub returns-then-not-in_range : goal.returns-then-not-in_range
+returns-then-not-in_range c = record { read = search (bad_field, rules) }
 
-pub returns-else-in_range : goal.returns-else-in_range
-returns-else-in_range c = record { read = search (bad_field, rules) }
+pub returns : goal.returns
+returns c = record { read = search (good, rules) }

@@ -1,7 +1,6 @@
 -- Each field is the number that its bytes spell. Assumes nothing.
 use native.Mathlib.Omega.{arith}
 use Rattle.records.proofs.Digits.{rest_all}
-use borrow.Author.Rules.{rules}
 use Rattle.records.proofs.forms.spelled.Goals as goal
 
 pub returns : goal.returns

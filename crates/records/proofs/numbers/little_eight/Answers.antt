@@ -1,7 +1,6 @@
 -- Two halves. Assumes nothing.
 use native.Mathlib.Omega.{arith}
 use Rattle.records.proofs.Digits.{little_halves}
-use borrow.Author.Rules.{rules}
 use Rattle.records.proofs.numbers.little_eight.Goals as goal
 
 pub returns : goal.returns

@@ -1,7 +1,6 @@
 -- The two bytes as they stand. Assumes nothing.
 use native.Mathlib.Omega.{arith}
 use Rattle.records.proofs.Digits.{little_two_lem}
-use borrow.Author.Rules.{rules}
 use Rattle.records.proofs.numbers.little_two.Goals as goal
 
 pub returns : goal.returns

@@ -3,7 +3,6 @@ use mathlib.Core.Path.{ap, ◌∙◌}
 use native.Mathlib.Omega.{arith}
 use Rattle.records.specs.Numbers.{turned_of}
 use Rattle.records.proofs.Digits.{turned_lt, turned_taken}
-use borrow.Author.Rules.{rules}
 use Rattle.records.proofs.numbers.number_two.Goals as goal
 
 pub returns : goal.returns

@@ -3,7 +3,6 @@ use Prim.Native.Nat.{◌/◌, ◌^◌}
 use mathlib.Core.Path.{sym}
 use native.Mathlib.Omega.{arith}
 use Rattle.records.proofs.Digits.{turned_lt, turned_parts}
-use borrow.Author.Rules.{rules}
 use Rattle.records.proofs.numbers.turn_eight.Goals as goal
 
 pub overflow_mul-result : goal.overflow_mul-result

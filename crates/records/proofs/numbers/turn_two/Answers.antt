@@ -1,7 +1,6 @@
 -- The two bytes, one by one. Assumes nothing.
 use native.Mathlib.Omega.{arith}
 use Rattle.records.specs.Numbers.{turned_of}
-use borrow.Author.Rules.{rules}
 use Rattle.records.proofs.numbers.turn_two.Goals as goal
 
 pub returns : goal.returns

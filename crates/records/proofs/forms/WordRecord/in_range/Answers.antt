@@ -1,5 +1,4 @@
 -- The tests of the fields, that of the time by `on_clock`. Assumes nothing.
-use borrow.Author.Rules.{rules}
 use Rattle.records.proofs.forms.WordRecord.in_range.Goals as goal
 
 pub returns : goal.returns
