@@ -1,15 +1,15 @@
 -- Laws of numbers in bytes, over any number of bytes. Assumes nothing.
 use mathlib.Core.Path.{◌≡◌, refl, sym, ap, ◌∙◌}
-use Prim.Native.Nat.{ℕ, zero, suc, ◌+◌, ◌*◌, ◌-◌, ◌/◌, ◌%◌, ◌^◌, ◌<◌, ◌≤◌}
-use native.Mathlib.Nat.{pow-zero, pow-suc, pow-succ', mul-one, mul_assoc, mul-add, add-mul, add-zero, add-suc, suc-add, zero-add, add_assoc, mul_comm, mod-lt, div-one, div-div-eq-div-mul, div-lt_iff_lt-mul, div-add-mod'}
+use Prim.Native.Nat.{ℕ, zero, suc, ◌+◌, ◌*◌, ◌-◌, ◌/◌, ◌^◌, ◌<◌, ◌≤◌}
+use native.Mathlib.Nat.{pow-zero, pow-suc, pow-succ', mul-one, mul_assoc, add-zero, add-suc, suc-add, zero-add, div-lt_iff_lt-mul, div-add-mod'}
 use native.Mathlib.Omega.{arith}
 use mathlib.Core.List.{List, [], ◌∷◌, ◌++◌, append-nil, append_assoc}
 use lib.ListN.{length, get_or, take, drop, length-drop}
-use lib.Seq.{take-add, take_all, length-take-le}
-use lib.Pow.{pow-add}
+use lib.Seq.{take_all}
 use lib.Arith.{digits_lt, digits_div, digits_mod}
+use Rattle.std.proofs.lemmas.List.{get_or-drop}
 use Rattle.records.specs.Theorems.{Bytes}
-use Rattle.records.specs.Numbers.{number_after, number_of, bytes_of, little_of, turned_of}
+use Rattle.records.specs.Numbers.{number_after, number_of, bytes_of}
 
 -- a part that the code hands over from a place on is all that is left
 pub rest_all : (at : ℕ) (s : List ℕ) → at ≤ length s → take (length s - at) (drop at s) ≡ drop at s
@@ -56,54 +56,37 @@ bytes_number_from n acc (x ∷ xs) h =
 pub bytes_number : (xs : List ℕ) → Bytes xs → bytes_of (length xs) (number_of xs) ≡ xs
 bytes_number xs h = ap (λ (k : ℕ). bytes_of k (number_of xs)) (sym (zero-add (length xs))) ∙ bytes_number_from 0 0 xs h
 
--- ---- bytes with the lowest in front, and numbers turned
+-- ---- the numbers of two and of eight bytes, as std puts them together
 
-pub little_append : (xs ys : List ℕ) → little_of (xs ++ ys) ≡ little_of xs + 256 ^ length xs * little_of ys
-unfolding little_of
-little_append [] ys = omega arith
-little_append (x ∷ xs) ys = rw (little_append xs ys, pow-succ', mul_assoc, mul-add) (sym (add_assoc x (256 * little_of xs) (256 * (256 ^ length xs * little_of ys))))
-
--- a number put together of two bytes
-pub little_two_lem : (s : List ℕ) → 2 ≤ length s → get_or s 0 0 + get_or s 1 0 * 256 ≡ little_of (take 2 s)
-unfolding little_of
-little_two_lem [] l = absurd (omega arith)
-little_two_lem (x ∷ []) l = absurd (omega arith)
-little_two_lem (x ∷ y ∷ s) l = omega arith
-
--- and of two halves of any width, the second at the front of what is left of the bytes
-pub little_halves : (n : ℕ) (s : List ℕ) {low high : ℕ} → n ≤ length s → low ≡ little_of (take n s) → high ≡ little_of (take n (take (length s - n) (drop n s)))
-    → low + high * 256 ^ n ≡ little_of (take (n + n) s)
-little_halves n s {low} {high} l p q =
-    let high_same : high ≡ little_of (take n (drop n s)) = q ∙ ap (λ (k : List ℕ). little_of (take n k)) (rest_all n s l) in
-    rw (p, high_same, take-add n n s, little_append, length-take-le n s l, mul_comm (256 ^ n))
-
-pub turned_lt : (n x : ℕ) → turned_of n x < 256 ^ n
-unfolding turned_of
-turned_lt zero x = omega arith
-turned_lt (suc n) x = rw pow-succ' (digits_lt (mod-lt x (omega arith)) (turned_lt n (x / 256)))
-
--- a number turned in two parts
-pub turned_parts : (m n x : ℕ) → turned_of (m + n) x ≡ turned_of m x * 256 ^ n + turned_of n (x / 256 ^ m)
-unfolding turned_of
-turned_parts zero n x = rw (zero-add, div-one) (omega arith)
-turned_parts (suc m) n x =
-    rw (suc-add, turned_parts m n (x / 256), pow-add, pow-succ', div-div-eq-div-mul, add-mul, mul_assoc, add_assoc)
-
-number_after_lem : (high : ℕ) (xs : List ℕ) → number_after high xs ≡ high * 256 ^ length xs + number_of xs
+two_bytes : (s : List ℕ) → 2 ≤ length s → get_or s 0 0 * 256 + get_or s 1 0 ≡ number_of (take 2 s)
 unfolding number_after
-number_after_lem high [] = omega arith
-number_after_lem high (x ∷ xs) =
-    rw (number_after_lem (high * 256 + x) xs, number_after_lem (0 + x) xs, pow-succ', zero-add, add-mul, mul_assoc, add_assoc)
+two_bytes [] l = absurd (omega arith)
+two_bytes (x ∷ []) l = absurd (omega arith)
+two_bytes (x ∷ y ∷ s) l = omega arith
 
--- a number that was taken with the lowest in front and then turned is the big-endian one, of whole bytes and of the first ones
-turned_little : (xs : List ℕ) → Bytes xs → turned_of (length xs) (little_of xs) ≡ number_of xs
-unfolding turned_of little_of number_after
-turned_little [] h = refl
-turned_little (x ∷ xs) h =
-    let low : (x + 256 * little_of xs) % 256 ≡ x = omega (arith, h 0) in
-    let high : (x + 256 * little_of xs) / 256 ≡ little_of xs = omega (arith, h 0) in
-    rw (low, high, turned_little xs (λ i. h (suc i)), number_after_lem (0 + x) xs, zero-add)
+-- from a place on
+pub two_at : (k : ℕ) (s : List ℕ) → k + 2 ≤ length s → get_or s (k + 0) 0 * 256 + get_or s (k + 1) 0 ≡ number_of (take 2 (drop k s))
+two_at k s l =
+    let long : 2 ≤ length (drop k s) = omega (arith, length-drop k s) in
+    omega (arith, two_bytes (drop k s) long, get_or-drop k s 0 0, get_or-drop k s 1 0)
 
-pub turned_taken : (n : ℕ) (s : List ℕ) → n ≤ length s → Bytes s → turned_of n (little_of (take n s)) ≡ number_of (take n s)
-turned_taken n s l h =
-    ap (λ (k : ℕ). turned_of k (little_of (take n s))) (sym (length-take-le n s l)) ∙ turned_little (take n s) (bytes_take n s h)
+eight_bytes : (s : List ℕ) → 8 ≤ length s
+    → get_or s 0 0 * 72057594037927936 + get_or s 1 0 * 281474976710656 + get_or s 2 0 * 1099511627776 + get_or s 3 0 * 4294967296 + get_or s 4 0 * 16777216 + get_or s 5 0 * 65536 + get_or s 6 0 * 256 + get_or s 7 0
+    ≡ number_of (take 8 s)
+unfolding number_after
+eight_bytes [] l = absurd (omega arith)
+eight_bytes (a ∷ []) l = absurd (omega arith)
+eight_bytes (a ∷ b ∷ []) l = absurd (omega arith)
+eight_bytes (a ∷ b ∷ c ∷ []) l = absurd (omega arith)
+eight_bytes (a ∷ b ∷ c ∷ d ∷ []) l = absurd (omega arith)
+eight_bytes (a ∷ b ∷ c ∷ d ∷ e ∷ []) l = absurd (omega arith)
+eight_bytes (a ∷ b ∷ c ∷ d ∷ e ∷ f ∷ []) l = absurd (omega arith)
+eight_bytes (a ∷ b ∷ c ∷ d ∷ e ∷ f ∷ g ∷ []) l = absurd (omega arith)
+eight_bytes (a ∷ b ∷ c ∷ d ∷ e ∷ f ∷ g ∷ h ∷ s) l = omega arith
+
+pub eight_at : (k : ℕ) (s : List ℕ) → k + 8 ≤ length s
+    → get_or s (k + 0) 0 * 72057594037927936 + get_or s (k + 1) 0 * 281474976710656 + get_or s (k + 2) 0 * 1099511627776 + get_or s (k + 3) 0 * 4294967296 + get_or s (k + 4) 0 * 16777216 + get_or s (k + 5) 0 * 65536 + get_or s (k + 6) 0 * 256 + get_or s (k + 7) 0
+    ≡ number_of (take 8 (drop k s))
+eight_at k s l =
+    let long : 8 ≤ length (drop k s) = omega (arith, length-drop k s) in
+    omega (arith, eight_bytes (drop k s) long, get_or-drop k s 0 0, get_or-drop k s 1 0, get_or-drop k s 2 0, get_or-drop k s 3 0, get_or-drop k s 4 0, get_or-drop k s 5 0, get_or-drop k s 6 0, get_or-drop k s 7 0)

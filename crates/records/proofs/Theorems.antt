@@ -6,7 +6,9 @@ use native.Mathlib.Nat.{le_of_suc-le-suc, not-suc-le-zero}
 use native.Mathlib.Omega.{arith}
 use mathlib.Core.List.{List, [], ◌∷◌, ◌++◌}
 use lib.ListN.{length, get_or, take, drop, length-append, length-take, length-drop}
-use lib.Seq.{take-append-le}
+use lib.Seq.{take-append-le, length-take-le}
+use Rattle.std.proofs.lemmas.List.{take-append-drop}
+use Rattle.std.specs.Array.{IsFirstChunk}
 use lib.Dec.{ltb, eqb}
 use borrow.Author.Tests.{ltb-false, eqb-true, le-ltb}
 use Rattle.words.specs.declared.refusals.Refusal.TheVariants.{ShortRecord, RecordLength, OutOfRange}
@@ -86,6 +88,16 @@ read_front last s after l =
     (ap₂
     (λ (two : List ℕ) (r : WordRecord). cond (eqb (number_of two) 14) (cond (in_range last r) (Ok r) (Err OutOfRange)) (Err RecordLength))
     length_same record_same)
+
+-- so reading the first 16 bytes gives what reading them all gives
+module _ (bytes form : List ℕ) (front : IsFirstChunk bytes form 16) where
+  pub front_long : 16 ≤ length form
+  front_long = omega (arith, ap length front.same, length-take-le 16 bytes front.enough)
+
+  pub front_read : (last : ℕ) → read_of last form ≡ read_of last bytes
+  front_read last =
+      let whole : bytes ≡ form ++ drop 16 bytes = sym (take-append-drop 16 bytes) ∙ ap (λ (k : List ℕ). k ++ drop 16 bytes) (sym front.same) in
+      sym (ap (read_of last) whole ∙ read_front last form (drop 16 bytes) front_long)
 
 -- 16 bytes with the right length are the form of the record that they spell
 spelled_form : (s : List ℕ) → 16 ≤ length s → Bytes s → number_of (take 2 s) ≡ 14 → take 16 s ≡ form_of (record_at s)

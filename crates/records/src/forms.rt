@@ -1,13 +1,13 @@
 // One word record: its range, its 16 bytes, read and written (01 Word records on file). Meaning: specs/Records.antt.
 // Refusals: 3, 4, 5 reading; 9, 5 writing.
-ghost use Rattle.std.specs.Prelude.{◌≡◌, ◌≤◌, length};
+ghost use Rattle.std.specs.Prelude.{◌≡◌, take};
+ghost use Rattle.records.specs.Numbers.{number_of};
 ghost use Rattle.records.specs.Records.{in_range, form_of, record_at, read_of, writes, written_of};
 
-use crate::numbers::{number_eight, number_two};
 use words::{Moment, Refusal};
 
 // "length (2 bytes, always 14)", and the bytes of a record in all.
-const LENGTH: u64 = 14;
+const LENGTH: u16 = 14;
 
 pub const RECORD_BYTES: usize = 16;
 
@@ -39,34 +39,28 @@ impl WordRecord {
     }
 
     // Gives the 16 bytes.
-    fn form(self) -> [u8; 16]
+    fn form(self) -> [u8; RECORD_BYTES]
         ensures bytes { result ≡ form_of self }
     {
-        let time = self.time.0;
-        let word = self.word;
-        let t1 = time >> 8;
-        let t2 = t1 >> 8;
-        let t3 = t2 >> 8;
-        let t4 = t3 >> 8;
-        let t5 = t4 >> 8;
-        let t6 = t5 >> 8;
-        let t7 = t6 >> 8;
+        let [l1, l0] = LENGTH.to_be_bytes();
+        let [t7, t6, t5, t4, t3, t2, t1, t0] = self.time.0.to_be_bytes();
+        let [w1, w0] = self.word.to_be_bytes();
         [
-            0,
-            LENGTH as u8,
-            (t7 % 256) as u8,
-            (t6 % 256) as u8,
-            (t5 % 256) as u8,
-            (t4 % 256) as u8,
-            (t3 % 256) as u8,
-            (t2 % 256) as u8,
-            (t1 % 256) as u8,
-            (time % 256) as u8,
+            l1,
+            l0,
+            t7,
+            t6,
+            t5,
+            t4,
+            t3,
+            t2,
+            t1,
+            t0,
             self.bus,
             self.sync,
             self.faults,
-            ((word >> 8) % 256) as u8,
-            (word % 256) as u8,
+            w1,
+            w0,
             self.parity,
         ]
     }
@@ -90,20 +84,42 @@ impl WordRecord {
     }
 }
 
-// Gives the record that 16 bytes spell, in range or not.
-fn spelled(bytes: &[u8]) -> WordRecord
-    requires { 16 ≤ length bytes.now }
-    ensures record { result ≡ record_at bytes.now }
+// Gives the length field of 16 bytes.
+fn length_in(form: &[u8; RECORD_BYTES]) -> u16
+    ensures number { result ≡ number_of (take 2 form.now) }
 {
-    let time = number_eight(&bytes[2..]);
-    let word = number_two(&bytes[13..]);
+    u16::from_be_bytes([form[0], form[1]])
+}
+
+// Gives the record that 16 bytes spell, in range or not.
+fn spelled(form: &[u8; RECORD_BYTES]) -> WordRecord
+    ensures record { result ≡ record_at form.now }
+{
+    let [
+        _,
+        _,
+        t7,
+        t6,
+        t5,
+        t4,
+        t3,
+        t2,
+        t1,
+        t0,
+        bus,
+        sync,
+        faults,
+        w1,
+        w0,
+        parity,
+    ] = *form;
     WordRecord {
-        time: Moment(time),
-        bus: bytes[10],
-        sync: bytes[11],
-        faults: bytes[12],
-        word: word as u16,
-        parity: bytes[15],
+        time: Moment(u64::from_be_bytes([t7, t6, t5, t4, t3, t2, t1, t0])),
+        bus,
+        sync,
+        faults,
+        word: u16::from_be_bytes([w1, w0]),
+        parity,
     }
 }
 
@@ -112,13 +128,13 @@ fn spelled(bytes: &[u8]) -> WordRecord
 pub fn read_record(bytes: &[u8], last_bus: u8) -> Result<WordRecord, Refusal>
     ensures read { result ≡ read_of last_bus bytes.now }
 {
-    if bytes.len() < RECORD_BYTES {
+    let Some(form) = bytes.first_chunk::<RECORD_BYTES>() else {
         return Err(Refusal::ShortRecord);
-    }
-    if number_two(bytes) != LENGTH {
+    };
+    if length_in(form) != LENGTH {
         return Err(Refusal::RecordLength);
     }
-    let record = spelled(bytes);
+    let record = spelled(form);
     if !record.in_range(last_bus) {
         return Err(Refusal::OutOfRange);
     }

@@ -4,7 +4,6 @@
 
 mod files;
 mod forms;
-mod numbers;
 
 pub use files::{Cursor, VERSION, count_records, open_file};
 pub use forms::{LAST_BUS, RECORD_BYTES, WordRecord, read_record};
