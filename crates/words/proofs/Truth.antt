@@ -5,7 +5,8 @@ use native.Mathlib.Nat.{not-suc-le-zero}
 use native.Mathlib.Omega.{arith}
 use native.Mathlib.Decide.{dec_le}
 use mathlib.Core.Logic.{dite}
-use mathlib.Core.Bool.{Bool, true, false, cond, ◌&&◌, true≢false}
+use mathlib.Core.Bool.{Bool, true, false, not, cond, ◌&&◌, true≢false}
+use mir.Val.{bool_byte}
 
 -- a test of two parts that passes passes at both
 pub and_both : (a b : Bool) → (a && b) ≡ true → (a ≡ true) × (b ≡ true)
@@ -16,6 +17,15 @@ and_both false b h = absurd (true≢false (sym h))
 pub cond_most : (n : ℕ) (b : Bool) (x y : ℕ) → x ≤ n → y ≤ n → cond b x y ≤ n
 cond_most n true x y p q = p
 cond_most n false x y p q = q
+
+-- a test as a number: 1 where it passes, else 0; and its opposite
+pub byte_of : (b : Bool) → bool_byte b ≡ cond b 1 0
+byte_of true = refl
+byte_of false = refl
+
+pub byte_of_not : (b : Bool) → bool_byte (not b) ≡ cond b 0 1
+byte_of_not true = refl
+byte_of_not false = refl
 
 -- ---- a test that is computed at every number below a bound
 

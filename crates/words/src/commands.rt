@@ -90,6 +90,7 @@ impl CommandWord {
         let subaddress = self.subaddress();
         (subaddress == 0) | (subaddress == 31)
     }
+
     // Gives how many data words come behind the command on its bus, 0 to 32: "the count for receive, one for a T/R 0 mode code of 16 or more,
     // else none."
     // Tables: none. Refusals: none.
@@ -100,7 +101,7 @@ impl CommandWord {
             return 0;
         }
         if self.is_mode() {
-            return if self.count() < 16 { 0 } else { 1 };
+            return u16::from(self.count() >= 16);
         }
         self.words()
     }

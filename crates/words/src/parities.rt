@@ -20,7 +20,7 @@ fn is_odd(word: u16, parity: u8) -> bool
 pub fn parity_bit(word: u16) -> u8
     ensures bit { result ≡ parity_of word }
 {
-    if is_odd(word, 0) { 0 } else { 1 }
+    u8::from(!is_odd(word, 0))
 }
 
 // Says whether a word is valid; any number may be handed over.
