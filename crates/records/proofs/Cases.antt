@@ -9,7 +9,7 @@ use borrow.Author.Tests.{lt-ltb, le-ltb, eq-eqb, ne_eqb, le-leb, lt-leb}
 use Rattle.words.specs.declared.refusals.Refusal.{Refusal}
 use Rattle.words.specs.declared.refusals.Refusal.TheVariants.{ShortRecord, RecordLength, OutOfRange, WrongVersion, NoRoom}
 use Rattle.std.specs.Prelude.{Some, None, Result, Ok, Err}
-use Rattle.records.proofs.Digits.{rest_all}
+use Rattle.std.proofs.lemmas.List.{take_rest}
 use Rattle.records.specs.Numbers.{number_of}
 use Rattle.records.specs.Records.{last_bus, in_range, form_of, record_at, read_of, writes, written_of}
 use Rattle.records.specs.Files.{last_bus_of, open_of, next_of, step_from}
@@ -91,7 +91,7 @@ at_end s c l = rw (le-leb _ _ l)
 
 -- the code hands over a part of the file, which is all that is left of it
 pub rest_read : (last : ℕ) (s : List ℕ) (at : ℕ) → at ≤ length s → read_of last (take (length s - at) (drop at s)) ≡ read_of last (drop at s)
-rest_read last s at l = ap (read_of last) (rest_all at s l)
+rest_read last s at l = ap (read_of last) (take_rest s at)
 
 module _ (s : List ℕ) (c : Cursor) {g : Result WordRecord Refusal} (l : c.at < length s) (e : g ≡ read_of c.last_bus (take (length s - c.at) (drop c.at s))) where
   going : step_from c g ≡ next_of s c

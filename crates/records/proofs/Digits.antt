@@ -1,19 +1,14 @@
 -- Laws of numbers in bytes, over any number of bytes. Assumes nothing.
 use mathlib.Core.Path.{◌≡◌, refl, sym, ap, ◌∙◌}
-use Prim.Native.Nat.{ℕ, zero, suc, ◌+◌, ◌*◌, ◌-◌, ◌/◌, ◌^◌, ◌<◌, ◌≤◌}
+use Prim.Native.Nat.{ℕ, zero, suc, ◌+◌, ◌*◌, ◌/◌, ◌^◌, ◌<◌, ◌≤◌}
 use native.Mathlib.Nat.{pow-zero, pow-suc, pow-succ', mul-one, mul_assoc, add-zero, add-suc, suc-add, zero-add, div-lt_iff_lt-mul, div-add-mod'}
 use native.Mathlib.Omega.{arith}
 use mathlib.Core.List.{List, [], ◌∷◌, ◌++◌, append-nil, append_assoc}
 use lib.ListN.{length, get_or, take, drop, length-drop}
-use lib.Seq.{take_all}
 use lib.Arith.{digits_lt, digits_div, digits_mod}
 use Rattle.std.proofs.lemmas.List.{get_or-drop}
 use Rattle.records.specs.Theorems.{Bytes}
 use Rattle.records.specs.Numbers.{number_after, number_of, bytes_of}
-
--- a part that the code hands over from a place on is all that is left
-pub rest_all : (at : ℕ) (s : List ℕ) → at ≤ length s → take (length s - at) (drop at s) ≡ drop at s
-rest_all at s l = take_all (length s - at) (drop at s) (omega (arith, length-drop at s))
 
 pub bytes_take : (n : ℕ) (s : List ℕ) → Bytes s → Bytes (take n s)
 bytes_take zero s h i = omega arith

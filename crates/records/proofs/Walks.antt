@@ -11,7 +11,7 @@ use native.Mathlib.Decide.{dec_le}
 use Prim.Native.Nat.{min}
 use mathlib.Core.Bool.{Bool, true, false, cond}
 use lib.Dec.{eqb}
-use Rattle.records.proofs.Digits.{rest_all}
+use Rattle.std.proofs.lemmas.List.{take_rest}
 use borrow.Author.Tests.{ne_eqb}
 use Rattle.words.specs.declared.refusals.Refusal.{Refusal}
 use Rattle.words.specs.declared.refusals.Refusal.TheVariants.{WrongVersion}
@@ -177,7 +177,7 @@ module _ (file : List ℕ) (o : Result Cursor Refusal) (e : o ≡ open_of file) 
   unfolding counted_of walk_of
   opened_whole c r rest q part h =
       let behind = opened_at c q in
-      let all : rest ≡ drop c.at file = part ∙ rest_all c.at file (omega (arith, behind.0, behind.1)) in
+      let all : rest ≡ drop c.at file = part ∙ take_rest file c.at in
       let few : length rest ≤ length file = omega (arith, ap length all, length-drop c.at file) in
       h ∙ ap counts (walk_enough c.last_bus (length rest) (length file) rest (omega arith) few ∙ ap (walk_from c.last_bus (length file)) all)
       ∙ ap (λ (x : Result Cursor Refusal). counts (walk_at x file)) (sym q ∙ e)
