@@ -1,4 +1,3 @@
-pub mod Tests
 pub mod Places
 pub mod Findings
 pub mod Orders

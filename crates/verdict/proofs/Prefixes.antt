@@ -1,22 +1,24 @@
 -- The records that are looked at, with whether there is one more, are enough for the finding; so are the first 36. Assumes nothing.
 use mathlib.Core.Path.{◌≡◌, refl, sym, ap, subst, ◌∙◌}
 use Prim.Native.Nat.{ℕ, zero, suc, ◌<◌}
-use mathlib.Core.Bool.{Bool, true, false, cond, true≢false}
+use mathlib.Core.Bool.{Bool, true, false, true≢false}
 use mathlib.Core.List.{List, [], ◌∷◌}
 use native.Mathlib.Omega.{arith}
-use lib.Dec.{eqb, ltb}
+use lib.Dec.{ltb}
 use lib.ListN.{length, take}
 use borrow.Author.Tests.{ltb-true, ltb-false, lt-ltb, le-ltb}
+use Rattle.std.specs.Prelude.{Option, Some, None}
 use Rattle.records.specs.declared.forms.WordRecord.{WordRecord}
-use Rattle.verdict.specs.Plans.{expected_of}
-use Rattle.verdict.specs.Numbers.{good}
+use Rattle.verdict.specs.Plans.{plan_checks, expected_of}
 use Rattle.verdict.specs.Facts.{fact_of}
-use Rattle.verdict.specs.Verdicts.{finding, one_more, finding_over, finding_of}
+use Rattle.verdict.specs.Verdicts.{found_or, one_more, finding_over, finding_of}
 use Rattle.verdict.specs.Theorems.{AgreeUpTo, LookedEnough, LookedFirst}
 use Rattle.verdict.specs.declared.judges.Finding.{Finding}
+use Rattle.verdict.specs.declared.verdicts.Verdict.{Verdict}
 use Rattle.verdict.specs.declared.plans.Expected.{Expected}
 use Rattle.verdict.proofs.Findings.{looked_over}
 use Rattle.verdict.proofs.Ranges.{looked_most}
+use Rattle.verdict.proofs.Refusals.{not_refused_ok}
 
 ltb_suc : (m n : ℕ) → ltb (suc m) (suc n) ≡ ltb m n
 ltb_suc m n = go (ltb m n) refl
@@ -48,26 +50,22 @@ over_enough [] last until (r ∷ rs) (o ∷ os) agreed = refl
 over_enough (e ∷ es) last until [] [] agreed = refl
 over_enough (e ∷ es) last until [] (o ∷ os) agreed = absurd (none_some o os agreed)
 over_enough (e ∷ es) last until (r ∷ rs) others agreed =
-    go (over_enough es r.time.0 until rs) (eqb (fact_of e last r) good) refl others agreed
+    go (over_enough es r.time.0 until rs) (fact_of (Some e) last r) refl others agreed
   where
     rest : Finding
     rest = finding_over es r.time.0 until rs
 
-    -- what the first record comes to, by whether it shows a fact
-    found : Bool → Finding
-    found none = cond none (one_more rest) (finding (fact_of e last r) 1)
-
     go : ((os : List WordRecord) → AgreeUpTo rest.looked rs os → finding_over es r.time.0 until os ≡ rest)
-        → (b : Bool) → eqb (fact_of e last r) good ≡ b
-        → (others : List WordRecord) → AgreeUpTo (found b).looked (r ∷ rs) others
-        → finding_over (e ∷ es) last until others ≡ found b
-    go again true none [] agreed = absurd (some_none rest.looked r rs agreed)
-    go again false some [] agreed = absurd (some_none 0 r rs agreed)
-    go again true none (o ∷ os) agreed =
+        → (shown : Option Verdict) → fact_of (Some e) last r ≡ shown
+        → (others : List WordRecord) → AgreeUpTo (found_or shown rest).looked (r ∷ rs) others
+        → finding_over (e ∷ es) last until others ≡ found_or shown rest
+    go again None none [] agreed = absurd (some_none rest.looked r rs agreed)
+    go again (Some fact) some [] agreed = absurd (some_none 0 r rs agreed)
+    go again None none (o ∷ os) agreed =
         let first = agree_first rest.looked r o rs os agreed in
-        subst (λ (x : WordRecord). finding_over (e ∷ es) last until (x ∷ os) ≡ found true) first.0 (rw none (ap one_more (again os first.1)))
-    go again false some (o ∷ os) agreed =
-        subst (λ (x : WordRecord). finding_over (e ∷ es) last until (x ∷ os) ≡ found false) (agree_first 0 r o rs os agreed).0 (rw some)
+        subst (λ (x : WordRecord). finding_over (e ∷ es) last until (x ∷ os) ≡ found_or None rest) first.0 (rw none (ap one_more (again os first.1)))
+    go again (Some fact) some (o ∷ os) agreed =
+        subst (λ (x : WordRecord). finding_over (e ∷ es) last until (x ∷ os) ≡ found_or (Some fact) rest) (agree_first 0 r o rs os agreed).0 (rw some)
 
 pub looked_enough : LookedEnough
 unfolding finding_of
@@ -85,4 +83,4 @@ agree_take (suc n) (suc m) (r ∷ rs) few =
     (ap (λ (l : List WordRecord). r ∷ l) rest.0, ltb_suc n (length rs) ∙ rest.1 ∙ sym (ltb_suc n (length (take m rs))))
 
 pub looked_first : LookedFirst
-looked_first plan ok rs = looked_enough plan rs (take 36 rs) (agree_take _ 36 rs (omega (arith, looked_most plan ok rs)))
+looked_first plan ok rs = looked_enough plan rs (take 36 rs) (agree_take _ 36 rs (omega (arith, looked_most plan (not_refused_ok (plan_checks plan) ok) rs)))

@@ -3,16 +3,19 @@ use mathlib.Core.Path.{◌≡◌, refl, ◌∙◌}
 use mathlib.Core.Bool.{Bool, true, false, not, cond}
 use Prim.Native.Nat.{ℕ}
 use lib.Dec.{eqb}
+use Rattle.std.specs.Prelude.{Option, Some, None}
 use Rattle.words.specs.Words.{spacing_of, is_overlapping, is_separated, is_valid, command_sync}
 use Rattle.words.specs.declared.times.Spacing.{Spacing}
 use Rattle.words.specs.declared.times.Spacing.TheVariants.{Overlapping, BackToBack, Separated}
 use Rattle.words.proofs.Spacings.{kinds_exact}
-use Rattle.verdict.specs.Numbers.{good, not_valid, wrong_sync}
+use Rattle.verdict.specs.Numbers.{good, not_valid, wrong_sync, fact_number}
 use Rattle.verdict.specs.Facts.{spacing_fact, data_fact}
 use Rattle.verdict.specs.Theorems.{SpacingFacts}
+use Rattle.verdict.specs.declared.verdicts.Verdict.{Verdict}
+use Rattle.verdict.specs.declared.verdicts.Verdict.TheVariants as verdict
 
-by_kind : (kind : Spacing) (next : ℕ) → eqb next 12 ≡ false → eqb next 10 ≡ false
-    → (eqb (spacing_fact kind next) 12 ≡ is_overlapping kind) × (eqb (spacing_fact kind next) 10 ≡ is_separated kind)
+by_kind : (kind : Spacing) (next : Option Verdict) → eqb (fact_number next) 12 ≡ false → eqb (fact_number next) 10 ≡ false
+    → (eqb (fact_number (spacing_fact kind next)) 12 ≡ is_overlapping kind) × (eqb (fact_number (spacing_fact kind next)) 10 ≡ is_separated kind)
 by_kind (Overlapping distance) next not12 not10 = (refl, refl)
 by_kind (BackToBack distance) next not12 not10 = (not12, not10)
 by_kind (Separated distance) next not12 not10 = (refl, refl)
@@ -20,7 +23,7 @@ by_kind (Separated distance) next not12 not10 = (refl, refl)
 -- no other fact of a data word has a number that the three have not
 others : (n : ℕ) → eqb not_valid n ≡ false → eqb wrong_sync n ≡ false → eqb good n ≡ false
     → (invalid command : Bool)
-    → eqb (cond invalid not_valid (cond command wrong_sync good)) n ≡ false
+    → eqb (fact_number (cond invalid (Some verdict.NotValid) (cond command (Some verdict.WrongSync) None))) n ≡ false
 others n a b c true command = a
 others n a b c false true = b
 others n a b c false false = c

@@ -1,158 +1,165 @@
 -- The walk over the returned records as the loop makes it. Assumes nothing.
-use mathlib.Core.Path.{◌≡◌, refl, sym, ap, subst, ◌∙◌}
-use Prim.Native.Nat.{ℕ, zero, suc, ◌+◌, ◌-◌, ◌≤◌, ◌<◌}
-use mathlib.Core.Bool.{Bool, true, false, cond}
-use mathlib.Core.List.{List, []}
+use mathlib.Core.Path.{◌≡◌, refl, sym, ap, ◌∙◌}
+use Prim.Native.Nat.{ℕ, zero, suc, ◌+◌, ◌≤◌, ◌<◌, min}
+use mathlib.Core.List.{List, [], ◌∷◌, ◌++◌, append-nil}
 use native.Mathlib.Omega.{arith}
-use lib.Dec.{eqb}
-use lib.ListN.{length, take, drop, length-drop, drop_of_length-le}
-use lib.Seq.{drop-drop}
-use borrow.Author.Tests.{eq-eqb, ne_eqb}
-use Rattle.words.specs.Refusals.{not_refused}
+use lib.ListN.{length, drop, length-append, drop_of_length-le}
+use lib.Seq.{drop-append_seam}
+use borrow.Author.Tests.{ne_eqb}
+use mathlib.Core.Bool.{true, false, true≢false}
+use Rattle.std.specs.Prelude.{Option, Some, None, is_none, Result, Ok, Err, ⊤}
 use Rattle.words.specs.declared.refusals.Refusal.{Refusal}
 use Rattle.records.specs.Records.{record_bytes, last_bus, read_of}
 use Rattle.records.specs.Files.{Walk, whole, stops, with}
 use Rattle.records.specs.declared.forms.WordRecord.{WordRecord}
-use Rattle.records.specs.declared.forms.Read.{Read}
-use Rattle.records.specs.declared.forms.Read.TheVariants.{Record, Refused}
-use Rattle.records.proofs.Cases.{rest_read}
+use Rattle.records.proofs.Theorems.{read_front}
 use Rattle.verdict.proofs.Orders.{finding_from, finding_places}
-use Rattle.verdict.proofs.Tests.{cond_ap}
-use Rattle.verdict.specs.Numbers.{good}
 use Rattle.verdict.specs.Facts.{fact_of}
-use Rattle.verdict.specs.Verdicts.{record_refusal, go_on, returned_from, returned_of, finding, expected_at, finish_of, refused_of, decide}
+use Rattle.verdict.specs.Verdicts.{record_checks, with_checked, go_on, returned_from, returned_of, finding, expected_at, finish_of, decide}
 use Rattle.verdict.specs.declared.plans.Plan.{Plan}
 use Rattle.verdict.specs.declared.judges.Finding.{Finding}
-use Rattle.verdict.specs.declared.judges.Judged.{Judged}
-use Rattle.verdict.specs.declared.judges.Judged.TheVariants as judged
+use Rattle.verdict.specs.declared.verdicts.Verdict.{Verdict}
 
--- what the records that are left come to: the fact found so far, or else the finding from this place on
-unfoldable pub resume : Plan → ℕ → ℕ → ℕ → Walk → Judged
-resume plan found looked last (whole rs) = judged.Given (cond (eqb found good) (finding_from plan looked last rs) (finding found looked))
-resume plan found looked last (stops n) = judged.Refused n
+-- what the records that are left come to, with the fact found so far
+abbrev pub resume : Plan → Option Verdict → ℕ → ℕ → Walk → Result Finding Refusal
+resume plan found looked last (whole rs) = Ok (finding_from plan found looked last rs)
+resume plan found looked last (stops n) = Err n
 
--- what is left at `at` is what the whole comes to
-pub record Left (plan : Plan) (bytes : List ℕ) (total : Judged) (at looked last found : ℕ) : Type 0 where
+-- what is left is what the whole comes to
+pub record Left (plan : Plan) (bytes rest : List ℕ) (looked last : ℕ) (found : Option Verdict) : Type 0 where
   pub fuel : ℕ
-  pub enough : length bytes ≤ at + fuel
-  pub few : looked ≤ at
-  pub same : resume plan found looked last (returned_from fuel plan last (drop at bytes)) ≡ total
+  pub enough : length rest ≤ fuel
+  pub few : looked + length rest ≤ length bytes
+  pub same : resume plan found looked last (returned_from fuel plan last rest) ≡ decide plan (returned_of plan bytes)
 
-start_same : (plan : Plan) (w : Walk) → resume plan good 0 plan.last.0 w ≡ decide plan w
-unfolding resume
-start_same plan (whole rs) = ap (λ (f : Finding). judged.Given f) (sym (finding_places plan rs))
+start_same : (plan : Plan) (w : Walk) → resume plan None 0 plan.last.0 w ≡ decide plan w
+start_same plan (whole rs) = ap (λ (f : Finding). Ok f) (sym (finding_places plan rs))
 start_same plan (stops n) = refl
 
-pub start : (plan : Plan) (bytes : List ℕ) → Left plan bytes (decide plan (returned_of plan bytes)) 0 0 plan.last.0 good
+pub start : (plan : Plan) (bytes : List ℕ) → Left plan bytes bytes 0 plan.last.0 None
 unfolding returned_of
 start plan bytes =
     record { fuel = length bytes; enough = omega arith; few = omega arith; same = start_same plan (returned_from (length bytes) plan plan.last.0 bytes) }
 
--- no byte is left
-returned_none : (n : ℕ) (plan : Plan) (last : ℕ) → returned_from n plan last [] ≡ whole []
-unfolding returned_from
-returned_none zero plan last = refl
-returned_none (suc n) plan last = refl
+-- ---- at the end
 
-pub stop : (plan : Plan) (bytes : List ℕ) (total : Judged) (at looked last found : ℕ) → Left plan bytes total at looked last found → length bytes ≤ at
-    → judged.Given (finding (finish_of plan found looked last) looked) ≡ total
-unfolding resume finding_from finish_of
-stop plan bytes total at looked last found left end =
-    let none : returned_from left.fuel plan last (drop at bytes) ≡ whole [] =
-    ap (returned_from left.fuel plan last) (drop_of_length-le bytes end) ∙ returned_none left.fuel plan last in
-    ap (λ (f : Finding). judged.Given f) (cond_ap (λ (v : ℕ). finding v looked) (eqb found good) _ _)
-    ∙ sym (ap (resume plan found looked last) none)
-    ∙ left.same
+-- no byte is left
+returned_none : (n : ℕ) (plan : Plan) (last : ℕ) (rest : List ℕ) → length rest ≡ 0 → returned_from n plan last rest ≡ whole []
+unfolding returned_from
+returned_none zero plan last rest none = refl
+returned_none (suc n) plan last rest none = rw (none)
+
+pub stop : (plan : Plan) (bytes rest : List ℕ) (looked last : ℕ) (found : Option Verdict) → Left plan bytes rest looked last found → length rest ≡ 0
+    → Ok (finding (finish_of plan found looked last) looked) ≡ decide plan (returned_of plan bytes)
+unfolding finding_from finish_of
+stop plan bytes rest looked last None left none =
+    sym (ap (resume plan None looked last) (returned_none left.fuel plan last rest none)) ∙ left.same
+stop plan bytes rest looked last (Some fact) left none =
+    sym (ap (resume plan (Some fact) looked last) (returned_none left.fuel plan last rest none)) ∙ left.same
+
+-- ---- one chunk more
+
+-- a chunk of so many bytes, with those behind it: it is whole, or nothing is behind it
+record Chunk (x behind : List ℕ) : Type 0 where
+  read : read_of last_bus (x ++ behind) ≡ read_of last_bus x
+  rest : drop record_bytes (x ++ behind) ≡ behind
+
+chunk_of : (x behind : List ℕ) → length x ≡ min record_bytes (length (x ++ behind)) → Chunk x behind
+chunk_of x [] size = record { read = ap (read_of last_bus) (append-nil x); rest = drop_of_length-le (x ++ []) {i = record_bytes} (omega (arith, length-append x [])) }
+chunk_of x (b ∷ bs) size =
+    let full : length x ≡ record_bytes = omega (arith, length-append x (b ∷ bs)) in
+    record { read = read_front last_bus x (b ∷ bs) (omega arith); rest = ap (λ (k : ℕ). drop k (x ++ (b ∷ bs))) (sym full) ∙ drop-append_seam x (b ∷ bs) }
 
 -- what the next read, with what follows it, comes to
-record Turn (plan : Plan) (bytes : List ℕ) (total : Judged) (at looked last found : ℕ) (g : Read) : Type 0 where
+record Turn (plan : Plan) (bytes behind : List ℕ) (looked last : ℕ) (found : Option Verdict) (g : Result WordRecord Refusal) : Type 0 where
   fuel : ℕ
-  enough : length bytes ≤ at + suc fuel
-  same : resume plan found looked last (go_on plan last g (λ (time : ℕ). returned_from fuel plan time (drop (at + record_bytes) bytes))) ≡ total
+  enough : length behind ≤ fuel
+  few : looked + 1 + length behind ≤ length bytes
+  same : resume plan found looked last (go_on plan last g (λ (time : ℕ). returned_from fuel plan time behind)) ≡ decide plan (returned_of plan bytes)
 
-returned_some : (n : ℕ) (plan : Plan) (last : ℕ) (bytes : List ℕ) → 0 < length bytes
-    → returned_from (suc n) plan last bytes ≡ go_on plan last (read_of last_bus bytes) (λ (time : ℕ). returned_from n plan time (drop record_bytes bytes))
+returned_some : (n : ℕ) (plan : Plan) (last : ℕ) (x behind : List ℕ) → 0 < length (x ++ behind) → Chunk x behind
+    → returned_from (suc n) plan last (x ++ behind) ≡ go_on plan last (read_of last_bus x) (λ (time : ℕ). returned_from n plan time behind)
 unfolding returned_from
-returned_some n plan last bytes some = rw (ne_eqb (length bytes) 0 (λ e. omega arith))
+returned_some n plan last x behind some chunk =
+    rw (ne_eqb (length (x ++ behind)) 0 (λ e. omega arith)) (simp (chunk.read, chunk.rest))
 
-turn_by : (plan : Plan) (bytes : List ℕ) (total : Judged) (at looked last found n : ℕ) → length bytes ≤ at + n
-    → resume plan found looked last (returned_from n plan last (drop at bytes)) ≡ total
-    → at < length bytes
-    → Turn plan bytes total at looked last found (read_of last_bus (drop at bytes))
-turn_by plan bytes total at looked last found zero enough same l = absurd (omega arith)
-turn_by plan bytes total at looked last found (suc n) enough same l = record {
-  fuel = n;
-  enough = enough;
-  same =
-      sym
-      (ap (resume plan found looked last) (returned_some n plan last (drop at bytes) (omega (arith, length-drop at bytes)))
-      ∙ ap (λ (l : List ℕ). resume plan found looked last (go_on plan last (read_of last_bus (drop at bytes)) (λ (time : ℕ). returned_from n plan time l)))
-      (drop-drop record_bytes at bytes))
-      ∙ same;
-}
+-- the next chunk of what is left, with what is behind it
+pub record Next (rest x behind : List ℕ) : Type 0 where
+  pub parts : rest ≡ x ++ behind
+  pub size : length x ≡ min record_bytes (length rest)
+  pub some : 0 < length rest
 
--- a record more: looked at where no fact is found yet, else passed over
-module _ (plan : Plan) (found looked last : ℕ) (r : WordRecord) where
-  resume_look : found ≡ good → (w : Walk)
-      → resume plan found looked last (with r w) ≡ resume plan (fact_of (expected_at plan looked) last r) (looked + 1) r.time.0 w
-  unfolding resume finding_from
-  resume_look none (stops n) = refl
-  resume_look none (whole rs) = rw (eq-eqb found good none)
+pub next_of : (size : ℕ) → size ≡ record_bytes → (rest x behind : List ℕ)
+    → (rest ≡ x ++ behind) × (length x ≡ min size (length rest)) × (0 < length rest)
+    → Next rest x behind
+next_of size e rest x behind given = record { parts = given.0; size = rw e at given.1; some = given.2 }
 
-  resume_pass : (found ≡ good → ⊥) → (w : Walk) → resume plan found looked last (with r w) ≡ resume plan found looked r.time.0 w
-  unfolding resume
-  resume_pass some (stops n) = refl
-  resume_pass some (whole rs) = rw (ne_eqb found good some)
+module _ (plan : Plan) (bytes rest : List ℕ) (looked last : ℕ) (found : Option Verdict) (left : Left plan bytes rest looked last found)
+    (x behind : List ℕ) (next : Next rest x behind) where
+  turn_by : (n : ℕ) → length rest ≤ n → resume plan found looked last (returned_from n plan last rest) ≡ decide plan (returned_of plan bytes)
+      → Turn plan bytes behind looked last found (read_of last_bus x)
+  turn_by zero enough same = absurd (omega (arith, next.some))
+  turn_by (suc n) enough same =
+      let parts = next.parts in
+      let whole_length : length rest ≡ length x + length behind = ap length parts ∙ length-append x behind in
+      record {
+        fuel = n;
+        enough = omega (arith, whole_length, next.size, next.some);
+        few = omega (arith, whole_length, left.few, next.size, next.some);
+        same =
+            ap (resume plan found looked last)
+            (sym (ap (returned_from (suc n) plan last) parts ∙ returned_some n plan last x behind (rw parts at next.some) (chunk_of x behind (rw parts at next.size))))
+            ∙ same;
+      }
 
-module _ (plan : Plan) (bytes : List ℕ) (total : Judged) (at looked last found : ℕ) (g : Read) (left : Left plan bytes total at looked last found)
-    (l : at < length bytes) (e : g ≡ read_of last_bus (take (length bytes - at) (drop at bytes))) where
-  turn : (x : Read) → g ≡ x → Turn plan bytes total at looked last found x
-  turn x q =
-      subst (λ (y : Read). Turn plan bytes total at looked last found y) (sym (e ∙ rest_read last_bus bytes at (omega arith)) ∙ q)
-      (turn_by plan bytes total at looked last found left.fuel left.enough left.same l)
+  turn : Turn plan bytes behind looked last found (read_of last_bus x)
+  turn = turn_by left.fuel left.enough left.same
 
   -- the reader refuses
-  pub unread : (n : Refusal) → g ≡ Refused n → refused_of g ≡ total
-  unfolding resume
-  unread n q = ap refused_of q ∙ (turn (Refused n) q).same
+  pub unread : (n : Refusal) → read_of last_bus x ≡ Err n → Err n ≡ decide plan (returned_of plan bytes)
+  unread n q = ap (λ (g : Result WordRecord Refusal). resume plan found looked last (go_on plan last g (λ (time : ℕ). returned_from turn.fuel plan time behind))) (sym q) ∙ turn.same
 
-  module _ (r : WordRecord) (q : g ≡ Record r) where
-    checked : (b : Bool) → eqb (record_refusal plan last r) not_refused ≡ b
-        → resume plan found looked last
-        (cond b (with r (returned_from (turn (Record r) q).fuel plan r.time.0 (drop (at + record_bytes) bytes))) (stops (record { 0 = record_refusal plan last r })))
-        ≡ total
-    checked b h =
-        ap
-        (λ (x : Bool).
-        resume plan found looked last
-        (cond x (with r (returned_from (turn (Record r) q).fuel plan r.time.0 (drop (at + record_bytes) bytes))) (stops (record { 0 = record_refusal plan last r }))))
-        (sym h)
-        ∙ (turn (Record r) q).same
+  -- a record is read
+  module _ (r : WordRecord) (q : read_of last_bus x ≡ Ok r) where
+    checked : (c : Result ⊤ Refusal) → record_checks plan last r ≡ c
+        → resume plan found looked last (with_checked c r (returned_from turn.fuel plan r.time.0 behind)) ≡ decide plan (returned_of plan bytes)
+    checked c h =
+        ap (λ (y : Result ⊤ Refusal). resume plan found looked last (with_checked y r (returned_from turn.fuel plan r.time.0 behind))) (sym h)
+        ∙ ap (λ (g : Result WordRecord Refusal). resume plan found looked last (go_on plan last g (λ (time : ℕ). returned_from turn.fuel plan time behind))) (sym q)
+        ∙ turn.same
 
     -- its check refuses
-    pub refused : (record_refusal plan last r ≡ not_refused → ⊥) → judged.Refused (record { 0 = record_refusal plan last r }) ≡ total
-    unfolding resume
-    refused bad = checked false (ne_eqb (record_refusal plan last r) not_refused bad)
+    pub refused : (n : Refusal) → record_checks plan last r ≡ Err n → Err n ≡ decide plan (returned_of plan bytes)
+    refused n h = checked (Err n) h
 
     -- what is left behind it, once it is looked at or passed over
-    onward : (found' looked' : ℕ) → looked' ≤ looked + 1
+    onward : (found' : Option Verdict) (looked' : ℕ) → looked' ≤ looked + 1
         → ((w : Walk) → resume plan found looked last (with r w) ≡ resume plan found' looked' r.time.0 w)
-        → record_refusal plan last r ≡ not_refused
-        → Left plan bytes total (at + record_bytes) looked' r.time.0 found'
-    onward found' looked' most step ok =
-        let t = turn (Record r) q in
-        record {
-          fuel = t.fuel;
-          enough = omega (arith, t.enough);
-          few = omega (arith, left.few);
-          same =
-              sym (step (returned_from t.fuel plan r.time.0 (drop (at + record_bytes) bytes)))
-              ∙ checked true (eq-eqb (record_refusal plan last r) not_refused ok);
-        }
+        → record_checks plan last r ≡ Ok tt
+        → Left plan bytes behind looked' r.time.0 found'
+    onward found' looked' most step ok = record {
+      fuel = turn.fuel;
+      enough = turn.enough;
+      few = omega (arith, turn.few);
+      same = sym (step (returned_from turn.fuel plan r.time.0 behind)) ∙ checked (Ok tt) ok;
+    }
 
-    pub look_on : found ≡ good → record_refusal plan last r ≡ not_refused
-        → Left plan bytes total (at + record_bytes) (looked + 1) r.time.0 (fact_of (expected_at plan looked) last r)
-    look_on none = onward _ _ (omega arith) (resume_look plan found looked last r none)
+    pub look_on : is_none found ≡ true → record_checks plan last r ≡ Ok tt
+        → Left plan bytes behind (looked + 1) r.time.0 (fact_of (expected_at plan looked) last r)
+    unfolding finding_from
+    look_on none = onward _ _ (omega arith) (go found none)
+      where
+        go : (o : Option Verdict) → is_none o ≡ true → (w : Walk)
+            → resume plan o looked last (with r w) ≡ resume plan (fact_of (expected_at plan looked) last r) (looked + 1) r.time.0 w
+        go None h (stops n) = refl
+        go None h (whole rs) = refl
+        go (Some fact) h w = absurd (true≢false (sym h))
 
-    pub pass_on : (found ≡ good → ⊥) → record_refusal plan last r ≡ not_refused → Left plan bytes total (at + record_bytes) looked r.time.0 found
-    pass_on some = onward _ _ (omega arith) (resume_pass plan found looked last r some)
+    pub pass_on : is_none found ≡ false → record_checks plan last r ≡ Ok tt → Left plan bytes behind looked r.time.0 found
+    unfolding finding_from
+    pass_on some = onward _ _ (omega arith) (go found some)
+      where
+        go : (o : Option Verdict) → is_none o ≡ false → (w : Walk) → resume plan o looked last (with r w) ≡ resume plan o looked r.time.0 w
+        go None h w = absurd (true≢false h)
+        go (Some fact) h (stops n) = refl
+        go (Some fact) h (whole rs) = refl

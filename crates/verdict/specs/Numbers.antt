@@ -1,5 +1,7 @@
 -- Document 01, "Controller verdicts", and 02 i: the numbers of verdicts. Assumes nothing.
-use Rattle.std.specs.Prelude.{ℕ}
+use Rattle.std.specs.Prelude.{ℕ, Option, Some, None}
+use Rattle.verdict.specs.declared.verdicts.Verdict.{Verdict}
+use Rattle.verdict.specs.declared.verdicts.Verdict.TheVariants.{Good, NoResponse, Waiting, Early, Late, NotValid, WrongSync, WrongAddress, MessageError, Busy, Separated, LeftOver, Overlapping}
 
 -- "0 good"
 abbrev pub good : ℕ
@@ -56,3 +58,24 @@ overlapping = 12
 -- "the report counts verdicts 0 to 12" (02 i): the last number; whatever goes over all verdicts cites it
 abbrev pub last_verdict : ℕ
 last_verdict = 12
+
+-- the number of a verdict
+abbrev pub number_of : Verdict → ℕ
+number_of Good = good
+number_of NoResponse = no_response
+number_of Waiting = waiting
+number_of Early = early
+number_of Late = late
+number_of NotValid = not_valid
+number_of WrongSync = wrong_sync
+number_of WrongAddress = wrong_address
+number_of MessageError = message_error
+number_of Busy = busy
+number_of Separated = separated
+number_of LeftOver = left_over
+number_of Overlapping = overlapping
+
+-- the number of a fact: 0 where none is found
+abbrev pub fact_number : Option Verdict → ℕ
+fact_number None = good
+fact_number (Some verdict) = number_of verdict

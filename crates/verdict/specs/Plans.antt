@@ -1,12 +1,13 @@
 -- Document 01, "Controller verdicts": the plan, which plans are possible, what is expected back. Assumes nothing.
-use Rattle.std.specs.Prelude.{ℕ, Bool, not, cond, ◌&&◌, ◌||◌, List, [], ◌∷◌, ◌++◌, eqb, leb, replicate}
+use Rattle.std.specs.Prelude.{ℕ, Bool, not, cond, ◌&&◌, ◌||◌, List, [], ◌∷◌, ◌++◌, eqb, leb, replicate, ⊤, Option, Some, None, Result, Ok, Err}
 use Rattle.words.specs.Words.{on_clock, address_of, count_of, code_of, words_of, is_transmit, is_mode, is_broadcast}
 use Rattle.words.specs.Modes.{listing_of, is_allowed}
-use Rattle.words.specs.Refusals.{not_refused, refused_out_of_range, refused_impossible_plan}
+use Rattle.words.specs.declared.refusals.Refusal.{Refusal}
+use Rattle.words.specs.declared.refusals.Refusal.TheVariants.{OutOfRange, ImpossiblePlan}
 use Rattle.words.specs.declared.modes.Listing.{Listing}
-use Rattle.words.specs.declared.modes.Listing.TheVariants.{Reserved, Listed}
-use Rattle.words.specs.declared.modes.ModeWord.TheVariants.{None, Sent, Received}
-use Rattle.records.specs.Records.{last_bus}
+use Rattle.words.specs.declared.modes.ModeWord.{ModeWord}
+use Rattle.words.specs.declared.modes.ModeWord.TheVariants.{Sent, Received}
+use Rattle.records.specs.Records.{last_bus, refusal_of}
 use Rattle.verdict.specs.declared.plans.Plan.{Plan}
 use Rattle.verdict.specs.declared.plans.Expected.{Expected}
 use Rattle.verdict.specs.declared.plans.Expected.TheVariants.{Status, Data}
@@ -34,11 +35,14 @@ is_possible plan =
     cond (eqb plan.commands 1) (is_single plan.first.0) (eqb plan.commands 2 && is_pair plan.first.0 plan.second.0)
 
 -- "Verdict: 7; 5 for bus, E, Q, Q below E"
-unfoldable pub plan_refusal : Plan → ℕ
-plan_refusal plan =
+unfoldable pub plan_checks : Plan → Result ⊤ Refusal
+plan_checks plan =
     cond (is_possible plan)
-    (cond (leb plan.bus last_bus && on_clock plan.last.0 && on_clock plan.until.0 && leb plan.last.0 plan.until.0) not_refused refused_out_of_range)
-    refused_impossible_plan
+    (cond (leb plan.bus last_bus && on_clock plan.last.0 && on_clock plan.until.0 && leb plan.last.0 plan.until.0) (Ok tt) (Err OutOfRange))
+    (Err ImpossiblePlan)
+
+abbrev pub plan_refusal : Plan → ℕ
+plan_refusal plan = refusal_of (plan_checks plan)
 
 -- ---- "Expected back"
 
@@ -51,11 +55,14 @@ abbrev pub status_for : ℕ → Expected
 status_for word = Status (address_of word) (is_unjudged word)
 
 -- the column "data word" of the code table: one where it is "sent"
-abbrev pub sent_by : Listing → ℕ
-sent_by Reserved = 0
-sent_by (Listed broadcast None) = 0
-sent_by (Listed broadcast Sent) = 1
-sent_by (Listed broadcast Received) = 0
+abbrev pub words_sent : Option ModeWord → ℕ
+words_sent None = 0
+words_sent (Some Sent) = 1
+words_sent (Some Received) = 0
+
+abbrev pub sent_by : Option Listing → ℕ
+sent_by None = 0
+sent_by (Some listing) = words_sent listing.word
 
 -- "for transmit, status and data": by the count, for a mode command by the code table
 unfoldable pub sent_of : ℕ → ℕ

@@ -1,23 +1,24 @@
 -- What holds of verdicts beyond each function's own promise, proved in proofs/ under the name at its side. Assumes nothing.
-use Rattle.std.specs.Prelude.{ℕ, suc, ◌≤◌, ◌≡◌, Bool, true, false, cond, ◌||◌, List, [], ◌∷◌, ◌⊎◌, eqb, ltb, length, take}
+use Rattle.std.specs.Prelude.{ℕ, suc, ◌≤◌, ◌≡◌, Bool, true, false, ◌||◌, List, [], ◌∷◌, ◌⊎◌, eqb, ltb, length, take, Option, Some, None, Ok}
 use Rattle.words.specs.Words.{on_clock, since_of, gap_of, is_spaced, address_of, has_flag, is_valid, command_sync, data_sync}
 use Rattle.words.specs.Refusals.{not_refused}
 use Rattle.words.specs.declared.times.Moment.{Moment}
 use Rattle.words.specs.declared.statuses.Flag.TheVariants.{MessageError, Busy}
 use Rattle.records.specs.declared.forms.WordRecord.{WordRecord}
 use Rattle.verdict.specs.Plans.{plan_refusal, expected_of}
-use Rattle.verdict.specs.Numbers.{good, no_response, waiting, separated, last_verdict}
+use Rattle.verdict.specs.Numbers.{good, no_response, separated, last_verdict, number_of, fact_number}
 use Rattle.verdict.specs.Facts.{gap_least, gap_most, listened_least, data_fact, fact_of}
 use Rattle.verdict.specs.Verdicts.{finding_of, verdict_of, looked_of, judged_of, expected_at, finish_of}
 use Rattle.verdict.specs.declared.judges.Finding.{Finding}
-use Rattle.verdict.specs.declared.judges.Judged.TheVariants as judged
+use Rattle.verdict.specs.declared.verdicts.Verdict.{Verdict}
+use Rattle.verdict.specs.declared.verdicts.Verdict.TheVariants as verdict
 use Rattle.verdict.specs.declared.plans.Plan.{Plan}
 use Rattle.verdict.specs.declared.plans.Expected.{Expected}
 use Rattle.verdict.specs.declared.plans.Expected.TheVariants.{Status, Data}
 
 -- The verdict is one of 0 to 12: verdict_range
 abbrev pub VerdictRange : Type 0
-VerdictRange = (plan : Plan) (rs : List WordRecord) → verdict_of plan rs ≤ last_verdict
+VerdictRange = (plan : Plan) (rs : List WordRecord) → number_of (verdict_of plan rs) ≤ last_verdict
 
 -- ---- how a data word is badly spaced
 
@@ -26,7 +27,8 @@ VerdictRange = (plan : Plan) (rs : List WordRecord) → verdict_of plan rs ≤ l
 abbrev pub SpacingFacts : Type 0
 SpacingFacts =
     (last : ℕ) (r : WordRecord)
-    → (eqb (data_fact last r) 12 ≡ ltb (since_of last r.time.0) 195) × (eqb (data_fact last r) 10 ≡ ltb 205 (since_of last r.time.0))
+    → (eqb (fact_number (data_fact last r)) 12 ≡ ltb (since_of last r.time.0) 195)
+    × (eqb (fact_number (data_fact last r)) 10 ≡ ltb 205 (since_of last r.time.0))
 
 -- ---- what good means
 
@@ -61,8 +63,8 @@ pub data Good (until : ℕ) : List Expected → ℕ → List WordRecord → Type
 abbrev pub GoodExactly : Type 0
 GoodExactly =
     (plan : Plan) (rs : List WordRecord)
-    → (verdict_of plan rs ≡ good → Good plan.until.0 (expected_of plan) plan.last.0 rs)
-    × (Good plan.until.0 (expected_of plan) plan.last.0 rs → verdict_of plan rs ≡ good)
+    → (verdict_of plan rs ≡ verdict.Good → Good plan.until.0 (expected_of plan) plan.last.0 rs)
+    × (Good plan.until.0 (expected_of plan) plan.last.0 rs → verdict_of plan rs ≡ verdict.Good)
 
 -- ---- listening longer
 
@@ -72,25 +74,29 @@ with_until plan moment =
     record { commands = plan.commands; first = plan.first; second = plan.second; bus = plan.bus; last = plan.last; until = moment }
 
 -- a verdict that takes the place of "2 still waiting"
-abbrev pub is_final : ℕ → Bool
-is_final verdict = eqb verdict good || eqb verdict no_response || eqb verdict separated
+abbrev pub is_final : Verdict → Bool
+is_final given = eqb (number_of given) good || eqb (number_of given) no_response || eqb (number_of given) separated
 
 -- The same bytes with a later Q on the clock: a verdict is given again, on as many records, the same, or in place of 2 a final one: longer
 abbrev pub Longer : Type 0
 Longer =
     (plan : Plan) (moment : Moment) → plan.until.0 ≤ moment.0 → on_clock moment.0 ≡ true
-    → (bytes : List ℕ) (f : Finding) → judged_of plan bytes ≡ judged.Given f
-    → (g : Finding) × (judged_of (with_until plan moment) bytes ≡ judged.Given g)
+    → (bytes : List ℕ) (f : Finding) → judged_of plan bytes ≡ Ok f
+    → (g : Finding) × (judged_of (with_until plan moment) bytes ≡ Ok g)
     × (g.looked ≡ f.looked)
-    × ((g.verdict.0 ≡ f.verdict.0) ⊎ ((f.verdict.0 ≡ waiting) × (is_final g.verdict.0 ≡ true)))
+    × ((g.verdict ≡ f.verdict) ⊎ ((f.verdict ≡ verdict.Waiting) × (is_final g.verdict ≡ true)))
 
 -- ---- record by record, as the log of 02 a) asks
 
+-- the fact found before some records, or else what the first of them shows at that place, the word before it at that time
+abbrev pub found_or_shown : Option Verdict → Plan → ℕ → ℕ → WordRecord → Option Verdict
+found_or_shown None plan place last r = fact_of (expected_at plan place) last r
+found_or_shown (Some fact) plan place last r = Some fact
+
 -- the fact found after some records, where one was found before them or none was, the first of them at that place, the word before it at that time
-abbrev pub found_after : Plan → ℕ → ℕ → ℕ → List WordRecord → ℕ
+abbrev pub found_after : Plan → Option Verdict → ℕ → ℕ → List WordRecord → Option Verdict
 found_after plan found place last [] = found
-found_after plan found place last (r ∷ rs) =
-    found_after plan (cond (eqb found good) (fact_of (expected_at plan place) last r) found) (suc place) r.time.0 rs
+found_after plan found place last (r ∷ rs) = found_after plan (found_or_shown found plan place last r) (suc place) r.time.0 rs
 
 -- the time of the last record, or of the word before the first
 abbrev pub last_after : ℕ → List WordRecord → ℕ
@@ -101,13 +107,13 @@ last_after last (r ∷ rs) = last_after r.time.0 rs
 abbrev pub LookByLook : Type 0
 LookByLook =
     (plan : Plan) (rs : List WordRecord)
-    → finish_of plan (found_after plan good 0 plan.last.0 rs) (length rs) (last_after plan.last.0 rs) ≡ verdict_of plan rs
+    → finish_of plan (found_after plan None 0 plan.last.0 rs) (length rs) (last_after plan.last.0 rs) ≡ verdict_of plan rs
 
 -- ---- how much is looked at (02 n)
 
 -- "is at most 35, however many records are handed over: two statuses, 32 data words and one left over": looked_bound
 abbrev pub LookedBound : Type 0
-LookedBound = (plan : Plan) (bytes : List ℕ) (f : Finding) → judged_of plan bytes ≡ judged.Given f → f.looked ≤ 35
+LookedBound = (plan : Plan) (bytes : List ℕ) (f : Finding) → judged_of plan bytes ≡ Ok f → f.looked ≤ 35
 
 -- two lists of records that agree up to a number, and on whether there is one more
 abbrev pub AgreeUpTo : ℕ → List WordRecord → List WordRecord → Type 0

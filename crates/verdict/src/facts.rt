@@ -19,103 +19,97 @@ const GAP_MOST: Ticks = Ticks(120);
 const LISTENED_LEAST: Ticks = Ticks(220);
 
 // Gives what the flags of a status show.
-fn flag_fact(heard: WordRecord) -> Verdict
-    ensures fact { result.0 ≡ flag_fact heard }
+#[tactic(auto, unfolding(crate::specs::Facts::flag_fact))]
+fn flag_fact(heard: WordRecord) -> Option<Verdict>
+    ensures fact { result ≡ flag_fact heard }
 {
     let status = StatusWord(heard.word);
     if status.has(Flag::MessageError) {
-        return Verdict::MESSAGE_ERROR;
+        return Some(Verdict::MessageError);
     }
     if status.has(Flag::Busy) {
-        return Verdict::BUSY;
+        return Some(Verdict::Busy);
     }
-    Verdict::GOOD
+    None
 }
 
 // Gives what a record shows where the status of an address is expected, the last word at that moment.
-fn status_fact(address: u16, unjudged: bool, last: Moment, heard: WordRecord) -> Verdict
-    ensures fact { result.0 ≡ status_fact address unjudged last.0 heard }
+#[tactic(auto, unfolding(crate::specs::Facts::status_fact))]
+fn status_fact(address: u16, unjudged: bool, last: Moment, heard: WordRecord) -> Option<Verdict>
+    ensures fact { result ≡ status_fact address unjudged last.0 heard }
 {
-    let gap = words::gap(last, heard.time).0;
-    if gap > RESPONSE_MOST.0 {
-        return Verdict::NO_RESPONSE;
+    let gap = words::gap(last, heard.time);
+    if gap > RESPONSE_MOST {
+        return Some(Verdict::NoResponse);
     }
-    if gap < GAP_LEAST.0 {
-        return Verdict::EARLY;
+    if gap < GAP_LEAST {
+        return Some(Verdict::Early);
     }
-    if gap > GAP_MOST.0 {
-        return Verdict::LATE;
+    if gap > GAP_MOST {
+        return Some(Verdict::Late);
     }
     if !words::is_valid(heard.sync, heard.faults, heard.word, heard.parity) {
-        return Verdict::NOT_VALID;
+        return Some(Verdict::NotValid);
     }
     if heard.sync == DATA_SYNC {
-        return Verdict::WRONG_SYNC;
+        return Some(Verdict::WrongSync);
     }
     if StatusWord(heard.word).address() != address {
-        return Verdict::WRONG_ADDRESS;
+        return Some(Verdict::WrongAddress);
     }
     if unjudged {
-        return Verdict::GOOD;
+        return None;
     }
     flag_fact(heard)
 }
 
 // Gives what a record shows where a data word is expected.
-pub(crate) fn data_fact(last: Moment, heard: WordRecord) -> Verdict
-    ensures fact { result.0 ≡ data_fact last.0 heard }
+#[tactic(auto, unfolding(crate::specs::Facts::data_fact))]
+pub(crate) fn data_fact(last: Moment, heard: WordRecord) -> Option<Verdict>
+    ensures fact { result ≡ data_fact last.0 heard }
 {
     match words::spacing_between(last, heard.time) {
-        Spacing::Overlapping(_) => Verdict::OVERLAPPING,
-        Spacing::Separated(_) => Verdict::SEPARATED,
+        Spacing::Overlapping(_) => Some(Verdict::Overlapping),
+        Spacing::Separated(_) => Some(Verdict::Separated),
         Spacing::BackToBack(_) => {
             if !words::is_valid(heard.sync, heard.faults, heard.word, heard.parity) {
-                return Verdict::NOT_VALID;
+                return Some(Verdict::NotValid);
             }
             if heard.sync == COMMAND_SYNC {
-                return Verdict::WRONG_SYNC;
+                return Some(Verdict::WrongSync);
             }
-            Verdict::GOOD
+            None
         }
     }
 }
 
-impl Expected {
-    // Gives what a record shows at its place.
-    pub(crate) fn fact(self, last: Moment, heard: WordRecord) -> Verdict
-        ensures fact { result.0 ≡ fact_of self last.0 heard }
-    {
-        match self {
-            Expected::Status(address, unjudged) => status_fact(address, unjudged, last, heard),
-            Expected::Data => data_fact(last, heard),
-            Expected::Nothing => Verdict::LEFT_OVER,
-        }
+// Gives what a record shows where that is expected, none where nothing more is.
+#[tactic(auto, unfolding(crate::specs::Facts::fact_of))]
+pub(crate) fn fact_of(
+    expected: Option<Expected>,
+    last: Moment,
+    heard: WordRecord,
+) -> Option<Verdict>
+    ensures fact { result ≡ fact_of expected last.0 heard }
+{
+    match expected {
+        Some(Expected::Status(address, unjudged)) => status_fact(address, unjudged, last, heard),
+        Some(Expected::Data) => data_fact(last, heard),
+        None => Some(Verdict::LeftOver),
     }
+}
 
-    // Gives the verdict where no record is left.
-    pub(crate) fn end(self, last: Moment, until: Moment) -> Verdict
-        ensures verdict { result.0 ≡ end_of self last.0 until.0 }
-    {
-        let listened = until.since(last).0;
-        match self {
-            Expected::Status(_, _) => {
-                if Ticks::NO_RESPONSE_DISTANCE.0 <= listened {
-                    return Verdict::NO_RESPONSE;
-                }
-                Verdict::WAITING
-            }
-            Expected::Data => {
-                if Ticks::SPACING_MOST.0 < listened {
-                    return Verdict::SEPARATED;
-                }
-                Verdict::WAITING
-            }
-            Expected::Nothing => {
-                if listened < LISTENED_LEAST.0 {
-                    return Verdict::WAITING;
-                }
-                Verdict::GOOD
-            }
-        }
+// Gives the verdict where no record is left, and that or nothing more is expected.
+#[tactic(auto, unfolding(crate::specs::Facts::end_of))]
+pub(crate) fn end_of(expected: Option<Expected>, last: Moment, until: Moment) -> Verdict
+    ensures verdict { result ≡ end_of expected last.0 until.0 }
+{
+    let listened = until.since(last);
+    match expected {
+        Some(Expected::Status(_, _)) if listened >= Ticks::NO_RESPONSE_DISTANCE =>
+            Verdict::NoResponse,
+        Some(Expected::Data) if listened > Ticks::SPACING_MOST => Verdict::Separated,
+        None if listened >= LISTENED_LEAST => Verdict::Good,
+        _ => Verdict::Waiting,
     }
 }

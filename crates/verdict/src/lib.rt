@@ -7,6 +7,6 @@ mod judges;
 mod plans;
 mod verdicts;
 
-pub use judges::{Finding, Judged};
+pub use judges::Finding;
 pub use plans::{Plan, is_pair};
 pub use verdicts::Verdict;

@@ -1,9 +1,8 @@
 // The plan of a message, which plans are possible, and what is expected back (01 Controller verdicts). Meaning: specs/Plans.antt.
 // Refusals: 7, then 5 for bus, E, Q, Q below E.
-ghost use Rattle.std.specs.Prelude.{◌≡◌, get_or};
-ghost use Rattle.verdict.specs.Plans.{is_single, is_pair, is_possible, plan_refusal, is_unjudged, sent_by, sent_of, part_of, back_of};
+ghost use Rattle.std.specs.Prelude.{◌≡◌, slice_get};
+ghost use Rattle.verdict.specs.Plans.{is_single, is_pair, is_possible, plan_checks, is_unjudged, sent_by, sent_of, part_of, back_of};
 ghost use Rattle.verdict.specs.Verdicts.{expected_at, sent_first};
-ghost use Rattle.verdict.specs.declared.plans.Expected.TheVariants.{Nothing};
 
 use records::LAST_BUS;
 use words::{CommandWord, Listing, ModeWord, Moment, Refusal};
@@ -20,15 +19,15 @@ pub struct Plan {
     pub until: Moment,
 }
 
-// What is expected at a place: the status of an address, and whether its message error and busy bits are let pass; a data word; nothing more.
-#[derive(Clone, Copy)]
+// What is expected at a place: the status of an address, and whether its message error and busy bits are let pass; a data word.
+#[derive(Clone, Copy, Debug, PartialEq, Eq)]
 pub enum Expected {
     Status(u16, bool),
     Data,
-    Nothing,
 }
 
 // Says whether one command makes a plan.
+#[tactic(auto, unfolding(crate::specs::Plans::is_single))]
 fn is_single(command: CommandWord) -> bool
     ensures answer { result ≡ is_single command.0 }
 {
@@ -40,6 +39,7 @@ fn is_single(command: CommandWord) -> bool
 
 // Says whether two commands, a receive and then a transmit, make a plan.
 // Tables: none. Refusals: none.
+#[tactic(auto, unfolding(crate::specs::Plans::is_pair))]
 pub fn is_pair(first: CommandWord, second: CommandWord) -> bool
     ensures answer { result ≡ is_pair first.0 second.0 }
 {
@@ -52,6 +52,7 @@ pub fn is_pair(first: CommandWord, second: CommandWord) -> bool
 }
 
 // Says whether message error and busy are let pass in the status to this command.
+#[tactic(auto, unfolding(crate::specs::Plans::is_unjudged))]
 fn is_unjudged(command: CommandWord) -> bool
     ensures answer { result ≡ is_unjudged command.0 }
 {
@@ -60,26 +61,27 @@ fn is_unjudged(command: CommandWord) -> bool
 }
 
 // Gives how many data words the code table has a terminal send.
-fn sent_by(listing: Listing) -> u64
+fn sent_by(listing: Option<Listing>) -> u64
     ensures count { result ≡ sent_by listing }
 {
     match listing {
-        Listing::Reserved => 0,
-        Listing::Listed { broadcast: _, word } => match word {
-            ModeWord::None => 0,
-            ModeWord::Sent => 1,
-            ModeWord::Received => 0,
-        },
+        Some(
+            Listing {
+                word: Some(ModeWord::Sent),
+                ..
+            },
+        ) => 1,
+        _ => 0,
     }
 }
 
 // Gives how many data words come back after the status.
+#[tactic(auto, unfolding(crate::specs::Plans::sent_of))]
 fn sent(command: CommandWord) -> u64
     ensures count { result ≡ sent_of command.0 }
 {
     if command.is_mode() {
-        let listing = words::look_up(command);
-        return sent_by(listing);
+        return sent_by(words::look_up(command));
     }
     if command.is_transmit() {
         command.words() as u64
@@ -89,25 +91,27 @@ fn sent(command: CommandWord) -> u64
 }
 
 // Gives what is expected at a place of the answer to a command that is not withheld.
-fn part_at(command: CommandWord, place: u64) -> Expected
-    ensures expected { result ≡ get_or (part_of command.0) place Nothing }
+#[tactic(auto, using(crate::proofs::Places::part_status, crate::proofs::Places::part_data, crate::proofs::Places::part_nothing))]
+fn part_at(command: CommandWord, place: u64) -> Option<Expected>
+    ensures expected { result ≡ slice_get (part_of command.0) place }
 {
     if place == 0 {
-        return Expected::Status(command.address(), is_unjudged(command));
+        return Some(Expected::Status(command.address(), is_unjudged(command)));
     }
     if place <= sent(command) {
-        Expected::Data
+        Some(Expected::Data)
     } else {
-        Expected::Nothing
+        None
     }
 }
 
 // Gives what is expected at a place of the answer, which broadcast has none of.
-fn back_at(command: CommandWord, place: u64) -> Expected
-    ensures expected { result ≡ get_or (back_of command.0) place Nothing }
+#[tactic(auto, unfolding(crate::specs::Plans::back_of))]
+fn back_at(command: CommandWord, place: u64) -> Option<Expected>
+    ensures expected { result ≡ slice_get (back_of command.0) place }
 {
     if command.is_broadcast() {
-        return Expected::Nothing;
+        return None;
     }
     part_at(command, place)
 }
@@ -115,6 +119,7 @@ fn back_at(command: CommandWord, place: u64) -> Expected
 impl Plan {
     // Says whether the plan is possible.
     // Tables: none. Refusals: none.
+    #[tactic(auto, unfolding(crate::specs::Plans::is_possible))]
     pub fn is_possible(self) -> bool
         ensures answer { result ≡ is_possible self }
     {
@@ -124,49 +129,50 @@ impl Plan {
         (self.commands == 2) & is_pair(self.first, self.second)
     }
 
-    // Gives no refusal, or the number of the plan's own.
-    pub(crate) fn refusal(self) -> Refusal
-        ensures refusal { result.0 ≡ plan_refusal self }
+    // Checks the plan itself.
+    #[tactic(auto, unfolding(crate::specs::Plans::plan_checks))]
+    pub(crate) fn check(self) -> Result<(), Refusal>
+        ensures checks { result ≡ plan_checks self }
     {
         if !self.is_possible() {
-            return Refusal::IMPOSSIBLE_PLAN;
+            return Err(Refusal::ImpossiblePlan);
         }
-        let last = self.last;
-        let until = self.until;
-        if (self.bus <= LAST_BUS) & last.on_clock() & until.on_clock() & (last.0 <= until.0) {
-            return Refusal::NONE;
+        if (self.bus <= LAST_BUS)
+            & self.last.on_clock()
+            & self.until.on_clock()
+            & (self.last <= self.until)
+        {
+            return Ok(());
         }
-        Refusal::OUT_OF_RANGE
+        Err(Refusal::OutOfRange)
     }
 
     // Gives how many data words are expected after the first status.
+    #[tactic(auto, unfolding(crate::specs::Verdicts::sent_first))]
     pub(crate) fn sent_first(self) -> u64
         ensures count { result ≡ sent_first self }
     {
-        let first = self.first;
-        let second = self.second;
         if self.commands != 1 {
-            return sent(second);
+            return sent(self.second);
         }
-        if first.is_broadcast() {
+        if self.first.is_broadcast() {
             return 0;
         }
-        sent(first)
+        sent(self.first)
     }
 
     // Gives what is expected at a place, counted from 0.
-    pub(crate) fn expected(self, place: u64) -> Expected
+    #[tactic(auto, using(crate::proofs::Places::pair_first, crate::proofs::Places::pair_second), unfolding(crate::specs::Plans::expected_of))]
+    pub(crate) fn expected(self, place: u64) -> Option<Expected>
         ensures expected { result ≡ expected_at self place }
     {
-        let first = self.first;
-        let second = self.second;
         if self.commands == 1 {
-            return back_at(first, place);
+            return back_at(self.first, place);
         }
-        let sent = sent(second);
+        let sent = sent(self.second);
         if place <= sent {
-            return part_at(second, place);
+            return part_at(self.second, place);
         }
-        back_at(first, place - sent - 1)
+        back_at(self.first, place - sent - 1)
     }
 }

@@ -1,43 +1,65 @@
 -- The loop's invariant: what is left, with the fact found and the number looked at so far, is what the whole comes to. Assumes nothing.
-use mathlib.Core.Path.{sym, ap, ◌∙◌}
-use Prim.Native.Nat.{ℕ}
+use mathlib.Core.Path.{◌≡◌, sym, ap, ◌∙◌}
 use native.Mathlib.Omega.{arith}
-use Rattle.verdict.specs.Verdicts.{returned_of, finding}
-use Rattle.verdict.specs.declared.judges.Judged.TheVariants as judged
-use Rattle.verdict.proofs.Walks.{start, stop, unread, refused, look_on, pass_on}
+use Rattle.std.proofs.Common.{rules}
+use Rattle.std.proofs.lemmas.Result.{err_from_is_err_and}
+use Rattle.std.specs.Prelude.{true, false, is_none, length, Ok}
+use Rattle.std.specs.Slice.Iter.{chunks_rest}
 use Rattle.verdict.proofs.Ranges.{looked_fits}
+use Rattle.verdict.specs.Verdicts.{returned_of, finding, finish_of}
+use Rattle.verdict.specs.declared.verdicts.Verdict.{Verdict}
+use Rattle.verdict.proofs.Walks.{start, stop, next_of, unread, refused, look_on, pass_on}
 use Rattle.verdict.proofs.plans.Plan.walk.Goals as goal
-use Rattle.verdict.proofs.plans.Plan.walk.Goals.{then-found, else-found}
+use Rattle.verdict.proofs.plans.Plan.walk.Goals.{then-is_none, else-is_none}
 
-pub loop-at-init : goal.loop-at-init
-loop-at-init c = start _ _
-
-pub returns-in_default : goal.returns-in_default
-returns-in_default c =
-    record { judged = c.refused.ensures.judged ∙ unread _ _ _ _ _ _ _ _ c.loop-at.invariant c.loop-at-test.true c.read_record-read.ensures.read _ c.in_default.is }
-
-pub returns-then-refusal : goal.returns-then-refusal
-returns-then-refusal c =
-    let refusal = c.record_refusal-refusal.ensures.refusal in
+pub loop-bytes-init : goal.loop-bytes-init
+loop-bytes-init c =
     record {
-      judged =
-          ap (λ (n : ℕ). judged.Refused (record { 0 = n })) refusal
-          ∙ refused _ _ _ _ _ _ _ _ c.loop-at.invariant c.loop-at-test.true c.read_record-read.ensures.read _ c.in-Record.is (λ e. c.if-refusal.true (refusal ∙ e));
+      size = search rules;
+      left = rw (c.into_iter-bytes-iterator.ensures.into_iter_gives, c.chunks-bytes-items.ensures.rest) (start c.args.self c.args.records.now);
     }
 
-pub loop-at-preserved : goal.loop-at-preserved
-loop-at-preserved c =
-    let ok = sym c.record_refusal-refusal.ensures.refusal ∙ c.if-refusal.false in
-    elim c.if-found.branch [
-      | then-found w ↦
-          rw (w.looked-is, w.found-is ∙ w.look-found.ensures.fact) (look_on _ _ _ _ _ _ _ _ c.loop-at.invariant c.loop-at-test.true c.read_record-read.ensures.read _ c.in-Record.is w.if-found.true ok)
-      | else-found w ↦
-          rw (w.looked-is, w.found-is) (pass_on _ _ _ _ _ _ _ _ c.loop-at.invariant c.loop-at-test.true c.read_record-read.ensures.read _ c.in-Record.is w.if-found.false ok)
-    ]
+pub returns-in_err-heard : goal.returns-in_err-heard
+returns-in_err-heard c =
+    let p = err_from_is_err_and c.from_residual.result c.from_residual.ensures.1 in
+    let next = next_of _ c.loop-bytes.invariant.size _ _ _ c.in-Some.ensures.steps.1 in
+    rw (p.1, p.2)
+    (record { judged = unread _ _ _ _ _ _ c.loop-bytes.invariant.left _ _ next _ (sym c.read_record.ensures.read ∙ c.in_err-heard.was) })
 
-pub overflow_cast-looked : goal.overflow_cast-looked
-overflow_cast-looked c =
-    omega (arith, looked_fits c.args.self (returned_of c.args.self c.args.records.now) _ (stop _ _ _ _ _ _ _ c.loop-at.invariant c.loop-at-test.false))
+pub returns-in_err-check_record : goal.returns-in_err-check_record
+returns-in_err-check_record c =
+    let p = err_from_is_err_and c.from_residual-in_err-check_record.result c.from_residual-in_err-check_record.ensures.1 in
+    let next = next_of _ c.loop-bytes.invariant.size _ _ _ c.in-Some.ensures.steps.1 in
+    let read = sym c.read_record.ensures.read ∙ c.in_ok-heard.was in
+    rw (p.1, p.2)
+    (record { judged = refused _ _ _ _ _ _ c.loop-bytes.invariant.left _ _ next _ read _ (sym c.check_record.ensures.checks ∙ c.in_err-check_record.was) })
+
+pub loop-bytes-preserved : goal.loop-bytes-preserved
+loop-bytes-preserved c =
+    let next = next_of _ c.loop-bytes.invariant.size _ _ _ c.in-Some.ensures.steps.1 in
+    let read = sym c.read_record.ensures.read ∙ c.in_ok-heard.was in
+    let ok = sym c.check_record.ensures.checks ∙ c.in_ok-check_record.was in
+    record {
+      size = c.in-Some.ensures.steps.0 ∙ c.loop-bytes.invariant.size;
+      left =
+          elim c.if-is_none.branch [
+            | then-is_none w ↦
+                let none : is_none c.loop-bytes.found ≡ true = search rules in
+                rw (w.looked-is, w.found-is ∙ w.look-found.ensures.fact) (look_on _ _ _ _ _ _ c.loop-bytes.invariant.left _ _ next _ read none ok)
+            | else-is_none w ↦
+                let some : is_none c.loop-bytes.found ≡ false = search rules in
+                rw (w.looked-is, w.found-is) (pass_on _ _ _ _ _ _ c.loop-bytes.invariant.left _ _ next _ read some ok)
+          ];
+    }
+
+pub overflow_cast-result : goal.overflow_cast-result
+overflow_cast-result c =
+    let empty : length (chunks_rest c.loop-bytes.bytes-iterator) ≡ 0 = c.in-None.ensures.steps.1.0 in
+    omega (arith, looked_fits c.args.self (returned_of c.args.self c.args.records.now) _ (stop _ _ _ _ _ _ c.loop-bytes.invariant.left empty))
 
 pub returns : goal.returns
-returns c = record { judged = ap (λ (n : ℕ). judged.Given (finding n c.loop-at.looked)) c.finish-verdict.ensures.verdict ∙ stop _ _ _ _ _ _ _ c.loop-at.invariant c.loop-at-test.false }
+unfolding finish_of
+returns c =
+    let same : c.unwrap_or_else-verdict.result ≡ finish_of c.args.self c.loop-bytes.found c.loop-bytes.looked c.loop-bytes.last.0 = search rules in
+    let empty : length (chunks_rest c.loop-bytes.bytes-iterator) ≡ 0 = c.in-None.ensures.steps.1.0 in
+    record { judged = ap (λ (v : Verdict). Ok (finding v c.loop-bytes.looked)) same ∙ stop _ _ _ _ _ _ c.loop-bytes.invariant.left empty }
