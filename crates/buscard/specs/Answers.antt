@@ -1,13 +1,9 @@
 -- What C gets: numbers for yes and no and for a kind of spacing, a record and a plan as six numbers, and what stays behind a pointer. Assumes nothing.
-use Rattle.std.specs.Prelude.{Bool, cond, ℕ}
-use Rattle.words.specs.Refusals.{not_refused}
+use Rattle.std.specs.Prelude.{Bool, cond, ℕ, Result, Ok, Err}
+use Rattle.words.specs.declared.refusals.Refusal.{Refusal}
 use Rattle.words.specs.declared.times.Spacing.{Spacing}
 use Rattle.words.specs.declared.times.Spacing.TheVariants.{Overlapping, BackToBack, Separated}
 use Rattle.records.specs.declared.forms.WordRecord.{WordRecord}
-use Rattle.records.specs.declared.forms.Read.{Read}
-use Rattle.records.specs.declared.forms.Read.TheVariants as read
-use Rattle.records.specs.declared.files.Counted.{Counted}
-use Rattle.records.specs.declared.files.Counted.TheVariants as counted
 use Rattle.verdict.specs.declared.plans.Plan.{Plan}
 
 -- 1 for yes, else 0.
@@ -31,19 +27,10 @@ record_of time bus sync faults word parity = record {
   parity = parity;
 }
 
--- "A refusal gives its number and nothing else; state, tables and buffers stay.": a field of the record that was read, or what was there.
-abbrev pub field_or : Read → (WordRecord → ℕ) → ℕ → ℕ
-field_or (read.Record r) field before = field r
-field_or (read.Refused n) field before = before
-
--- The number of records that were counted, or what was there; and the number of the refusal.
-abbrev pub count_or : Counted → ℕ → ℕ
-count_or (counted.Records n) before = n
-count_or (counted.Refused n) before = before
-
-abbrev pub count_refusal : Counted → ℕ
-count_refusal (counted.Records n) = not_refused
-count_refusal (counted.Refused n) = n.0
+-- "A refusal gives its number and nothing else; state, tables and buffers stay.": a number of what a call gave, or what was there.
+abbrev pub field_or : {T : Type 0} → Result T Refusal → (T → ℕ) → ℕ → ℕ
+field_or (Ok value) field before = field value
+field_or (Err refusal) field before = before
 
 -- The plan of six numbers.
 abbrev pub plan_of : ℕ → ℕ → ℕ → ℕ → ℕ → ℕ → Plan

@@ -4,16 +4,16 @@
 #![tactic(auto)]
 
 ghost use Rattle.std.specs.Prelude.{◌≡◌};
-ghost use Rattle.buscard.specs.Answers.{one_if, spacing_number, record_of, field_or, count_or, count_refusal, plan_of};
+ghost use Rattle.buscard.specs.Answers.{one_if, spacing_number, record_of, field_or, plan_of};
 ghost use Rattle.records.specs.Records.{last_bus, read_of, refusal_of, write_refusal, written_of};
 ghost use Rattle.records.specs.Files.{counted_of};
 ghost use Rattle.records.specs.declared.forms.WordRecord.{WordRecord};
 ghost use Rattle.verdict.specs.Verdicts.{judged_of, refusal_in, verdict_or, looked_or};
 ghost use Rattle.words.specs.Words.{parity_of, is_valid, is_spaced, spacing_of, distance_in, command_of, address_of, transmit_of, subaddress_of, count_of, words_of, is_mode, status_of, flags_of};
 
-use records::{Counted, LAST_BUS, Read, WordRecord};
-use verdict::{Judged, Plan};
-use words::{CommandWord, Moment, Refusal, Spacing, StatusWord};
+use records::{LAST_BUS, WordRecord};
+use verdict::Plan;
+use words::{CommandWord, Moment, Spacing, StatusWord};
 
 // "overlapping (below 195), back to back, or separated (above 205)" (02 i): 0, 1, 2 in this order (house)
 const OVERLAPPING: u8 = 0;
@@ -22,12 +22,8 @@ const BACK_TO_BACK: u8 = 1;
 
 const SEPARATED: u8 = 2;
 
-// Gives 1 for yes and 0 for no.
-fn number(answer: bool) -> u8
-    ensures number { result ≡ one_if answer }
-{
-    if answer { 1 } else { 0 }
-}
+// the number of a call that was not refused
+const NOT_REFUSED: u8 = 0;
 
 // Gives the parity bit that makes the 17 bits odd.
 // Tables: none. Refusals: none.
@@ -44,7 +40,7 @@ pub extern "C" fn bus_word_parity(word: u16) -> u8
 pub extern "C" fn bus_word_valid(sync: u8, faults: u8, word: u16, parity: u8) -> u8
     ensures answer { result ≡ one_if (is_valid sync faults word parity) }
 {
-    number(words::is_valid(sync, faults, word, parity))
+    u8::from(words::is_valid(sync, faults, word, parity))
 }
 
 // Gives 1 if the second word is 195 to 205 ticks past the first, else 0.
@@ -53,7 +49,7 @@ pub extern "C" fn bus_word_valid(sync: u8, faults: u8, word: u16, parity: u8) ->
 pub extern "C" fn bus_word_spaced(before: u64, after: u64) -> u8
     ensures answer { result ≡ one_if (is_spaced before after) }
 {
-    number(words::is_spaced(Moment(before), Moment(after)))
+    u8::from(words::is_spaced(Moment(before), Moment(after)))
 }
 
 // Gives 0 if the second word overlaps the first, 1 if it is back to back, 2 if it is separated from it, and how many ticks past the first it comes.
@@ -140,7 +136,7 @@ pub extern "C" fn bus_command_words(word: u16) -> u16
 pub extern "C" fn bus_command_is_mode(word: u16) -> u8
     ensures answer { result ≡ one_if (is_mode word) }
 {
-    number(CommandWord(word).is_mode())
+    u8::from(CommandWord(word).is_mode())
 }
 
 // Gives the status word of the low 5 bits of the address and, of the flags, the bits 0400 0100 0010 0008 0004 0001.
@@ -192,16 +188,16 @@ pub extern "C" fn bus_record_read(
     ensures parity { parity.new ≡ field_or (read_of last_bus bytes.now) (λ r. r.parity) parity.old }
 {
     match records::read_record(bytes, LAST_BUS) {
-        Read::Record(record) => {
+        Ok(record) => {
             *time = record.time.0;
             *bus = record.bus;
             *sync = record.sync;
             *faults = record.faults;
             *word = record.word;
             *parity = record.parity;
-            Refusal::NONE.0
+            NOT_REFUSED
         }
-        Read::Refused(refusal) => refusal.0,
+        Err(refusal) => refusal.number(),
     }
 }
 
@@ -228,23 +224,25 @@ pub extern "C" fn bus_record_write(
         word,
         parity,
     };
-    let refusal = made.write(bytes);
-    refusal.0
+    match made.write(bytes) {
+        Ok(()) => NOT_REFUSED,
+        Err(refusal) => refusal.number(),
+    }
 }
 
 // Gives 0 and how many records the bytes hold as a file, or gives the number of the refusal.
 // Tables: records is their number; after a refusal it is as before. Refusals: 8, then record by record 3, 4, 5.
 #[unsafe(no_mangle)]
 pub extern "C" fn bus_file_check(bytes: &[u8], records: &mut u64) -> u8
-    ensures refusal { result ≡ count_refusal (counted_of bytes.now) }
-    ensures records { records.new ≡ count_or (counted_of bytes.now) records.old }
+    ensures refusal { result ≡ refusal_of (counted_of bytes.now) }
+    ensures records { records.new ≡ field_or (counted_of bytes.now) (λ count. count) records.old }
 {
     match records::count_records(bytes) {
-        Counted::Records(count) => {
+        Ok(count) => {
             *records = count;
-            Refusal::NONE.0
+            NOT_REFUSED
         }
-        Counted::Refused(refusal) => refusal.0,
+        Err(refusal) => refusal.number(),
     }
 }
 
@@ -277,12 +275,12 @@ pub extern "C" fn bus_verdict_looked(
         until: Moment(until),
     };
     match plan.judge(records) {
-        Judged::Given(finding) => {
-            *verdict = finding.verdict.0;
+        Ok(finding) => {
+            *verdict = finding.verdict.number();
             *looked = finding.looked;
-            Refusal::NONE.0
+            NOT_REFUSED
         }
-        Judged::Refused(refusal) => refusal.0,
+        Err(refusal) => refusal.number(),
     }
 }
 

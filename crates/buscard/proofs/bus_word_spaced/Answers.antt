@@ -1,5 +1,9 @@
 -- The answer of the wrapped test, as a number. Assumes nothing.
+use mathlib.Core.Path.{ap, ◌∙◌}
+use Rattle.words.proofs.Truth.{byte_of}
+use Rattle.buscard.specs.Answers.{one_if}
 use Rattle.buscard.proofs.bus_word_spaced.Goals as goal
 
 pub returns : goal.returns
-returns c = record { answer = rw (c.number.ensures.number, c.is_spaced.ensures.answer) }
+unfolding one_if
+returns c = record { answer = c.from.ensures ∙ byte_of c.is_spaced.result ∙ ap one_if c.is_spaced.ensures.answer }
