@@ -5,15 +5,16 @@ use Prim.Native.Nat.{ℕ, zero, suc, ◌+◌, ◌*◌, ◌-◌, ◌/◌, ◌%◌
 use native.Mathlib.Nat.{pow-suc}
 use native.Mathlib.Omega.{arith}
 use mathlib.Core.List.{List, [], ◌∷◌, ◌++◌}
-use lib.Dec.{ltb, eqb}
+use lib.Dec.{ltb}
 use lib.ListN.{length, length-append}
-use borrow.Author.Tests.{ltb-true, lt-ltb, le-leb, eqb-true}
+use borrow.Author.Tests.{ltb-true, lt-ltb, le-leb}
 use lib.Pow.{shr-shr}
 use Rattle.words.proofs.Truth.{passes, passed}
-use Rattle.lines.specs.declared.numbers.Number.TheVariants.{Is}
+use Rattle.std.proofs.Common.{Some}
 use Rattle.lines.specs.Sinks.{digit_of, decimal_in, decimal_text}
 use Rattle.lines.specs.Numbers.{is_digit, are_digits, spelled_after, number_after, number_read, digit_value, hexadecimal_after, hexadecimal_read}
 use Rattle.lines.specs.Theorems.{DecimalBack, WordBack}
+use Rattle.lines.proofs.Hexadecimals.{same_value, same_value_lem}
 
 -- ---- one digit more at the end
 
@@ -89,10 +90,11 @@ decimal_back n l =
 
 -- ---- the four digits of a word
 
-digit_back : (n : ℕ) → digit_value (digit_of (n % 16)) ≡ n % 16
+digit_back : (n : ℕ) → digit_value (digit_of (n % 16)) ≡ Some (n % 16)
 unfolding digit_value digit_of passes
 digit_back n =
-    eqb-true (digit_value (digit_of (n % 16))) (n % 16) (passed 16 (λ (i : ℕ). eqb (digit_value (digit_of i)) i) refl (n % 16) (omega arith))
+    same_value_lem (digit_value (digit_of (n % 16))) (Some (n % 16))
+    (passed 16 (λ (i : ℕ). same_value (digit_value (digit_of i)) (Some i)) refl (n % 16) (omega arith))
 
 word_spelled : (n : ℕ) → n < 2 ^ 16 → (((0 * 16 + n / 2 ^ 12 % 16) * 16 + n / 2 ^ 8 % 16) * 16 + n / 2 ^ 4 % 16) * 16 + n % 16 ≡ n
 word_spelled n l =
@@ -106,15 +108,5 @@ word_spelled n l =
 pub word_back : WordBack
 unfolding hexadecimal_read hexadecimal_after
 word_back word l =
-    let one : (n : ℕ) → ltb (n % 16) 16 ≡ true = λ n. lt-ltb (n % 16) 16 (omega arith) in
-    rw (
-      digit_back (word / 2 ^ 12),
-      one (word / 2 ^ 12),
-      digit_back (word / 2 ^ 8),
-      one (word / 2 ^ 8),
-      digit_back (word / 2 ^ 4),
-      one (word / 2 ^ 4),
-      digit_back word,
-      one word,
-    )
-    (ap Is (word_spelled word l))
+    rw (digit_back (word / 2 ^ 12), digit_back (word / 2 ^ 8), digit_back (word / 2 ^ 4), digit_back word)
+    (ap Some (word_spelled word l))

@@ -1,65 +1,60 @@
 -- A text read as a hexadecimal number: one law for each way that the code takes, from the facts that its tests give. Assumes nothing.
 use mathlib.Core.Path.{◌≡◌, refl, sym, ap, ◌∙◌}
-use mathlib.Core.Bool.{Bool, true, false, cond, ◌&&◌, and-false}
-use Prim.Native.Nat.{ℕ, suc, ◌+◌, ◌*◌, ◌-◌, ◌^◌, ◌≤◌, ◌<◌}
+use mathlib.Core.Bool.{Bool, true, false, cond, and-false}
+use Prim.Native.Nat.{ℕ, suc, ◌+◌, ◌*◌, ◌^◌, ◌≤◌, ◌<◌}
 use native.Mathlib.Nat.{pow-suc}
 use native.Mathlib.Numerals.{add-one}
 use native.Mathlib.Omega.{arith}
 use mathlib.Core.List.{List, ◌∷◌}
-use lib.Dec.{leb, ltb}
+use lib.Dec.{leb, ltb, eqb}
 use lib.ListN.{length, drop, get_or, drop_of_length-le}
 use lib.Seq.{drop-cons}
-use borrow.Author.Tests.{leb-true, lt-ltb, le-ltb, le-leb, lt-leb, eq-eqb, ne_eqb}
+use borrow.Author.Tests.{leb-true, ltb-true, ltb-false, eqb-true, le-leb, lt-leb, eq-eqb, ne_eqb}
+use Rattle.std.proofs.Common.{Option, None, Some}
+use Rattle.std.specs.Option.{SomeIff}
+use Rattle.std.specs.Char as char
 use Rattle.words.proofs.Truth.{passes, passed}
-use Rattle.lines.specs.declared.numbers.Number.{Number}
-use Rattle.lines.specs.declared.numbers.Number.TheVariants.{Is, None}
 use Rattle.lines.specs.Numbers.{digit_value, hexadecimal_after, hexadecimal_read}
 
--- ---- a digit
+-- ---- a digit: each of the 256 bytes is one of std's, or none of them
 
-module _ (byte : ℕ) where
-  pub within_low : (low high : ℕ) → leb low byte && leb byte high ≡ true → low ≤ byte
-  within_low low high = by (leb low byte) refl
-    where
-      by : (b : Bool) → leb low byte ≡ b → b && leb byte high ≡ true → low ≤ byte
-      by true e h = leb-true low byte e
-      by false e h = let z : ◌≡◌ {A = ℕ} 0 1 = cc in absurd (omega arith)
+-- what std says of a byte, as an Option
+abbrev value_of : ℕ → Option ℕ
+value_of byte = cond (ltb (char.digit_value byte) 16) (Some (char.digit_value byte)) None
 
-  within_high : (low high : ℕ) → leb low byte && leb byte high ≡ true → byte ≤ high
-  within_high low high = by (leb low byte) refl
-    where
-      by : (b : Bool) → leb low byte ≡ b → b && leb byte high ≡ true → byte ≤ high
-      by true e h = leb-true byte high h
-      by false e h = let z : ◌≡◌ {A = ℕ} 0 1 = cc in absurd (omega arith)
+abbrev pub same_value : Option ℕ → Option ℕ → Bool
+same_value None None = true
+same_value None (Some y) = false
+same_value (Some x) None = false
+same_value (Some x) (Some y) = eqb x y
 
-  pub value_decimal : leb 48 byte && leb byte 57 ≡ true → byte - 48 ≡ digit_value byte
-  unfolding digit_value
-  value_decimal a = rw a
+pub same_value_lem : (a b : Option ℕ) → same_value a b ≡ true → a ≡ b
+same_value_lem None None e = refl
+same_value_lem None (Some y) e = cc
+same_value_lem (Some x) None e = cc
+same_value_lem (Some x) (Some y) e = ap Some (eqb-true x y e)
 
-  pub value_capital : leb 48 byte && leb byte 57 ≡ false → leb 65 byte && leb byte 70 ≡ true → byte - 65 + 10 ≡ digit_value byte
-  unfolding digit_value
-  value_capital a b = rw (a, b) (omega (arith, within_low 65 70 b))
+value_is : (byte : ℕ) → byte < 256 → value_of byte ≡ digit_value byte
+unfolding digit_value passes
+value_is byte l =
+    same_value_lem (value_of byte) (digit_value byte) (passed 256 (λ (i : ℕ). same_value (value_of i) (digit_value i)) refl byte l)
 
-  pub value_small : leb 48 byte && leb byte 57 ≡ false → leb 65 byte && leb byte 70 ≡ false → leb 97 byte && leb byte 102 ≡ true
-      → byte - 97 + 10 ≡ digit_value byte
-  unfolding digit_value
-  value_small a b c = rw (a, b, c) (omega (arith, within_low 97 102 c))
+pub digit_is : (byte : ℕ) (r : Option ℕ) → byte < 256 → SomeIff r (char.digit_value byte < 16) (char.digit_value byte) → r ≡ digit_value byte
+digit_is byte r l is = by (ltb (char.digit_value byte) 16) refl r is ∙ value_is byte l
+  where
+    by : (b : Bool) → ltb (char.digit_value byte) 16 ≡ b → (r : Option ℕ) → SomeIff r (char.digit_value byte < 16) (char.digit_value byte)
+        → r ≡ cond b (Some (char.digit_value byte)) None
+    by true e None none = absurd (none (ltb-true (char.digit_value byte) 16 e))
+    by true e (Some x) one = ap Some one.1
+    by false e None none = refl
+    by false e (Some x) one = absurd (omega (arith, one.0, ltb-false (char.digit_value byte) 16 e))
 
-  pub value_none : leb 48 byte && leb byte 57 ≡ false → leb 65 byte && leb byte 70 ≡ false → leb 97 byte && leb byte 102 ≡ false
-      → 16 ≡ digit_value byte
-  unfolding digit_value
-  value_none a b c = rw (a, b, c)
-
-  value_most : digit_value byte ≤ 16
-  unfolding digit_value
-  value_most = by (leb 48 byte && leb byte 57) (leb 65 byte && leb byte 70) (leb 97 byte && leb byte 102) (within_high 48 57) (within_high 65 70) (within_high 97 102)
-    where
-      by : (a b c : Bool) → (a ≡ true → byte ≤ 57) → (b ≡ true → byte ≤ 70) → (c ≡ true → byte ≤ 102)
-          → cond a (byte - 48) (cond b (byte - 55) (cond c (byte - 87) 16)) ≤ 16
-      by true b c h i j = omega (arith, h refl)
-      by false true c h i j = omega (arith, i refl)
-      by false false true h i j = omega (arith, j refl)
-      by false false false h i j = omega arith
+pub value_below : (byte next : ℕ) → byte < 256 → Some next ≡ digit_value byte → next < 16
+value_below byte next l e = by (ltb (char.digit_value byte) 16) refl (value_is byte l ∙ sym e)
+  where
+    by : (b : Bool) → ltb (char.digit_value byte) 16 ≡ b → cond b (Some (char.digit_value byte)) None ≡ Some next → next < 16
+    by true t p = let same : char.digit_value byte ≡ next = cc in omega (arith, same, ltb-true (char.digit_value byte) 16 t)
+    by false t p = cc
 
 -- ---- the number so far
 
@@ -74,10 +69,6 @@ module _ (high i : ℕ) (small : high < 16 ^ i) where
 
   pub so_far_more : (next : ℕ) → next < 16 → high * 16 + next < 16 ^ (i + 1)
   so_far_more next l = rw add-one (omega (arith, pow-suc 16 i))
-
--- a digit that is one
-pub value_below : (byte next : ℕ) → next ≡ digit_value byte → (next ≡ 16 → ⊥) → next < 16
-value_below byte next e other = omega (arith, value_most byte)
 
 -- ---- a whole text
 
@@ -97,7 +88,7 @@ module _ (text : List ℕ) (digits : ℕ) where
   none_many l = rw (lt-leb digits 16 l, and-false, and-false)
 
   module _ (same : length text ≡ digits) (some : digits ≡ 0 → ⊥) (few : digits ≤ 16) where
-    whole : {r : Number} → r ≡ hexadecimal_after 0 text → r ≡ hexadecimal_read text digits
+    whole : {r : Option ℕ} → r ≡ hexadecimal_after 0 text → r ≡ hexadecimal_read text digits
     unfolding hexadecimal_read
     whole p =
         let one : leb 1 digits ≡ true = le-leb 1 digits (omega arith) in
@@ -105,22 +96,19 @@ module _ (text : List ℕ) (digits : ℕ) where
 
     -- the loop at a place, with the number so far
     module _ (high at : ℕ) (so : hexadecimal_after high (drop at text) ≡ hexadecimal_after 0 text) where
-      pub hexadecimal_stopped : at < length text → (next : ℕ) → next ≡ digit_value (get_or text at 0) → next ≡ 16 → None ≡ hexadecimal_read text digits
+      pub hexadecimal_stopped : at < length text → None ≡ digit_value (get_or text at 0) → None ≡ hexadecimal_read text digits
       unfolding hexadecimal_after
-      hexadecimal_stopped l next q e =
-          let none : ltb (digit_value (get_or text at 0)) 16 ≡ false = le-ltb (digit_value (get_or text at 0)) 16 (omega arith) in
-          let stop : None ≡ hexadecimal_after high (get_or text at 0 ∷ drop (suc at) text) = rw none in
+      hexadecimal_stopped l e =
+          let stop : None ≡ hexadecimal_after high (get_or text at 0 ∷ drop (suc at) text) = rw (← e) in
           whole (stop ∙ sym (ap (hexadecimal_after high) (drop-cons text at 0 l)) ∙ so)
 
-      pub hexadecimal_ended : length text ≤ at → Is high ≡ hexadecimal_read text digits
+      pub hexadecimal_ended : length text ≤ at → Some high ≡ hexadecimal_read text digits
       unfolding hexadecimal_after
       hexadecimal_ended l = whole (sym (ap (hexadecimal_after high) (drop_of_length-le text {i = at} l)) ∙ so)
 
-module _ (text : List ℕ) (high at : ℕ) (so : hexadecimal_after high (drop at text) ≡ hexadecimal_after 0 text) where
-  pub hexadecimal_turned : at < length text → (next : ℕ) → next ≡ digit_value (get_or text at 0) → next < 16
-      → hexadecimal_after (high * 16 + next) (drop (at + 1) text) ≡ hexadecimal_after 0 text
-  unfolding hexadecimal_after
-  hexadecimal_turned l next q few =
-      let one : ltb (digit_value (get_or text at 0)) 16 ≡ true = lt-ltb (digit_value (get_or text at 0)) 16 (omega arith) in
-      let step : hexadecimal_after high (get_or text at 0 ∷ drop (suc at) text) ≡ hexadecimal_after (high * 16 + digit_value (get_or text at 0)) (drop (suc at) text) = rw one in
-      rw (add-one, q) (sym step ∙ sym (ap (hexadecimal_after high) (drop-cons text at 0 l)) ∙ so)
+pub hexadecimal_turned : (text : List ℕ) (high at next : ℕ) → hexadecimal_after high (drop at text) ≡ hexadecimal_after 0 text → at < length text
+    → Some next ≡ digit_value (get_or text at 0) → hexadecimal_after (high * 16 + next) (drop (at + 1) text) ≡ hexadecimal_after 0 text
+unfolding hexadecimal_after
+hexadecimal_turned text high at next so l e =
+    let step : hexadecimal_after high (get_or text at 0 ∷ drop (suc at) text) ≡ hexadecimal_after (high * 16 + next) (drop (suc at) text) = rw (← e) in
+    rw add-one (sym step ∙ sym (ap (hexadecimal_after high) (drop-cons text at 0 l)) ∙ so)

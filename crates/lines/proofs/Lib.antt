@@ -1,5 +1,6 @@
 pub mod Waits
 pub mod Texts
+pub mod Goings
 pub mod Losses
 pub mod Spellings
 pub mod Readings

@@ -1,75 +1,46 @@
 -- Names: one law for each way that the code takes, from the facts that its tests give. Assumes nothing.
-use mathlib.Core.Path.{◌≡◌, refl, sym, ap, ap₂, ◌∙◌}
+use mathlib.Core.Path.{◌≡◌, refl, sym, ap, ◌∙◌}
 use mathlib.Core.Bool.{Bool, true, false, not, cond, ◌&&◌, ◌||◌}
-use Prim.Native.Nat.{ℕ, suc, ◌+◌, ◌≤◌, ◌<◌}
+use Prim.Native.Nat.{ℕ, ◌+◌, ◌≤◌, ◌<◌}
 use native.Mathlib.Numerals.{add-one}
-use native.Mathlib.Omega.{arith}
 use mathlib.Core.List.{List, [], ◌∷◌}
 use lib.Dec.{leb, ltb, eqb}
 use lib.ListN.{length, drop, get_or, drop_of_length-le}
 use lib.Seq.{drop-cons}
-use borrow.Author.Tests.{ltb-false, le-leb, eqb-true, eq-eqb}
+use borrow.Author.Tests.{ltb-false, le-leb, eqb-true}
 use Rattle.lines.specs.Sinks.{place_after, block_after}
 use Rattle.lines.specs.Names.{same_text, shown_of, place_after_name, block_after_name, place_before, place_after_named, block_after_named, colon_text, place_behind_program, place_after_sentence, block_after_sentence}
+use Rattle.std.specs.Char.{is_ascii_control}
+use Rattle.std.specs.Str.{bytes_eq}
+use Rattle.std.proofs.lemmas.Slice.Eq.{bytes_eq-Decides}
+use Rattle.words.proofs.Truth.{passes, passed}
 use Rattle.lines.specs.Theorems.{SameText, TextSame, ShownPlain}
 
 -- ---- two texts
 
-pub same_text_lem : SameText
+-- what `==` says of them
+pub same_is : (text wanted : List ℕ) → bytes_eq text wanted ≡ same_text text wanted
 unfolding same_text
-same_text_lem [] [] e = refl
-same_text_lem [] (want ∷ wants) e = let z : ◌≡◌ {A = ℕ} 0 1 = cc in absurd (omega arith)
-same_text_lem (byte ∷ bytes) [] e = let z : ◌≡◌ {A = ℕ} 0 1 = cc in absurd (omega arith)
-same_text_lem (byte ∷ bytes) (want ∷ wants) e = by (eqb byte want) refl (same_text_lem bytes wants) e
-  where
-    by : (b : Bool) → eqb byte want ≡ b → (same_text bytes wants ≡ true → bytes ≡ wants) → b && same_text bytes wants ≡ true → byte ∷ bytes ≡ want ∷ wants
-    by true q more h = ap₂ ◌∷◌ (eqb-true byte want q) (more h)
-    by false q more h = let z : ◌≡◌ {A = ℕ} 0 1 = cc in absurd (omega arith)
+same_is [] [] = refl
+same_is [] (want ∷ wants) = refl
+same_is (byte ∷ bytes) [] = refl
+same_is (byte ∷ bytes) (want ∷ wants) = ap (λ (b : Bool). eqb byte want && b) (same_is bytes wants)
+
+pub same_text_lem : SameText
+same_text_lem text wanted e = (bytes_eq-Decides text wanted).0 (same_is text wanted ∙ e)
 
 pub text_same : TextSame
-unfolding same_text
-text_same [] = refl
-text_same (byte ∷ bytes) = rw (eq-eqb byte byte refl) (text_same bytes)
+text_same text = sym (same_is text text) ∙ (bytes_eq-Decides text text).1 refl
 
-differ : (text wanted : List ℕ) → (text ≡ wanted → ⊥) → false ≡ same_text text wanted
-differ text wanted other = by (same_text text wanted) refl
-  where
-    by : (b : Bool) → same_text text wanted ≡ b → false ≡ b
-    by true e = absurd (other (same_text_lem text wanted e))
-    by false e = refl
+-- ---- a byte as it is shown: each of the 256 bytes is one that std calls a control character, or none
 
-module _ (text wanted : List ℕ) where
-  pub differ_length : (length text ≡ length wanted → ⊥) → false ≡ same_text text wanted
-  differ_length other = differ text wanted (λ e. other (ap length e))
+pub shown_is : (byte : ℕ) → byte < 256 → cond (is_ascii_control byte) 63 byte ≡ shown_of byte
+unfolding shown_of passes
+shown_is byte l =
+    eqb-true (cond (is_ascii_control byte) 63 byte) (shown_of byte) (passed 256 (λ (i : ℕ). eqb (cond (is_ascii_control i) 63 i) (shown_of i)) refl byte l)
 
-  pub differ_byte : (at : ℕ) → (get_or text at 0 ≡ get_or wanted at 0 → ⊥) → false ≡ same_text text wanted
-  differ_byte at other = differ text wanted (λ e. other (ap (λ (l : List ℕ). get_or l at 0) e))
-
-  -- the loop at a place: the rest of the one is the rest of the other exactly if the whole is
-  module _ (at : ℕ) (so : same_text (drop at text) (drop at wanted) ≡ same_text text wanted) where
-    pub same_turned : at < length text → at < length wanted → get_or text at 0 ≡ get_or wanted at 0
-        → same_text (drop (at + 1) text) (drop (at + 1) wanted) ≡ same_text text wanted
-    unfolding same_text
-    same_turned l m e =
-        let first : eqb (get_or text at 0) (get_or wanted at 0) ≡ true = eq-eqb (get_or text at 0) (get_or wanted at 0) e in
-        let step : same_text (get_or text at 0 ∷ drop (suc at) text) (get_or wanted at 0 ∷ drop (suc at) wanted) ≡ same_text (drop (suc at) text) (drop (suc at) wanted) =
-        rw first in
-        rw add-one (sym step ∙ sym (ap₂ same_text (drop-cons text at 0 l) (drop-cons wanted at 0 m)) ∙ so)
-
-    pub same_ended : length text ≤ at → length wanted ≤ at → true ≡ same_text text wanted
-    unfolding same_text
-    same_ended l m = sym (ap₂ same_text (drop_of_length-le text {i = at} l) (drop_of_length-le wanted {i = at} m)) ∙ so
-
--- ---- a byte as it is shown
-
-module _ (byte : ℕ) where
-  pub shown_mark : ltb byte 32 || eqb byte 127 ≡ true → 63 ≡ shown_of byte
-  unfolding shown_of
-  shown_mark e = rw e
-
-  pub shown_byte : ltb byte 32 || eqb byte 127 ≡ false → byte ≡ shown_of byte
-  unfolding shown_of
-  shown_byte e = rw e
+pub shown_as : (byte : ℕ) (control : Bool) → byte < 256 → control ≡ is_ascii_control byte → cond control 63 byte ≡ shown_of byte
+shown_as byte control l e = rw e (shown_is byte l)
 
 pub shown_plain : ShownPlain
 unfolding shown_of

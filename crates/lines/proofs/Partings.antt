@@ -1,71 +1,51 @@
--- Parts of a line: one law for each way that the code takes, from the facts that its tests give. Assumes nothing.
+-- Parts of a line: what the library's methods say is what the definitions say. Assumes nothing.
 use mathlib.Core.Path.{◌≡◌, refl, ap, ◌∙◌}
-use mathlib.Core.Bool.{Bool, true, false, cond, ◌&&◌}
-use Prim.Native.Nat.{ℕ, suc, ◌+◌, ◌-◌, ◌≤◌, ◌<◌}
-use native.Mathlib.Numerals.{add-one}
+use mathlib.Core.Bool.{and-false}
+use mathlib.Core.Logic.{◌≢◌, ◌⊎◌, dite}
+use Prim.Native.Nat.{ℕ, ◌+◌, ◌≤◌, ◌<◌, min}
+use native.Mathlib.Nat.{lt_of_not-le}
 use native.Mathlib.Omega.{arith}
-use mathlib.Core.List.{List, [], ◌∷◌}
-use lib.Dec.{leb, eqb}
-use lib.ListN.{length, take, drop, get_or, drop_of_length-le}
-use lib.Seq.{drop-cons}
-use borrow.Author.Tests.{leb-true, le-leb, eq-eqb, ne_eqb}
+use native.Mathlib.Decide.{dec_le}
+use mathlib.Core.List.{List, []}
+use denote.Ref.{Bor}
+use lib.ListN.{length, drop, drop_of_length-le}
+use borrow.Author.Tests.{le-leb, lt-leb, eq-eqb, ne_eqb}
+use Rattle.std.proofs.Common.{Option, None, Some, inl, inr}
+use Rattle.std.specs.Option.{MatchOption, unwrap_or}
+use Rattle.std.specs.List.{AllWithin, HoldsAt, slice_range}
+use Rattle.std.proofs.lemmas.Iterator.{index_from_first}
 use Rattle.lines.specs.Parts.{between_of, before_space, part_end}
 
 -- ---- from a start to an end
 
-both : (a b : Bool) → a && b ≡ true → (a ≡ true) × (b ≡ true)
-both true b e = (refl, e)
-both false b e = let z : ◌≡◌ {A = ℕ} 0 1 = cc in absurd (omega arith)
+-- what `get` gives of two places, and nothing where they are none
+pub between_is : (text : List ℕ) (start end : ℕ) (got : Option (Bor (List ℕ))) (none result : Bor (List ℕ)) → none.now ≡ []
+    → MatchOption got ((end < start) ⊎ (length text < end)) (λ x. (start ≤ end) × (end ≤ length text) × (x.now ≡ slice_range text start end) × (length x.now + start ≡ end))
+    → result ≡ unwrap_or got none → result.now ≡ between_of text start end
+unfolding between_of
+between_is text start end None none result e (inl l) is = rw (lt-leb start end l) (ap (λ (b : Bor (List ℕ)). b.now) is ∙ e)
+between_is text start end None none result e (inr l) is = rw (lt-leb end (length text) l, and-false) (ap (λ (b : Bor (List ℕ)). b.now) is ∙ e)
+between_is text start end (Some x) none result e found is = rw (le-leb start end found.0, le-leb end (length text) found.1) (ap (λ (b : Bor (List ℕ)). b.now) is ∙ found.2)
 
-module _ (text : List ℕ) (start end : ℕ) where
-  pub places_meet : leb start end && leb end (length text) ≡ true → start ≤ end
-  places_meet e = leb-true start end (both (leb start end) (leb end (length text)) e).0
+-- ---- the end of a part
 
-  pub places_end : leb start end && leb end (length text) ≡ true → end ≤ length text
-  places_end e = leb-true end (length text) (both (leb start end) (leb end (length text)) e).1
+-- the place of the first space, as `position` finds it
+pub before_found : (rest : List ℕ) (r : Option ℕ)
+    → MatchOption r (AllWithin (λ (b : ℕ). b ≢ 32) rest 0 (length rest)) (λ i. (i < length rest) × HoldsAt (λ (b : ℕ). b ≡ 32) rest i × AllWithin (λ (b : ℕ). b ≢ 32) rest 0 i)
+    → before_space rest ≡ unwrap_or r (length rest)
+unfolding before_space
+before_found rest r found =
+    index_from_first before_space (λ (b : ℕ). b ≡ 32) (λ (b : ℕ). b ≢ 32) refl (λ x xs e. rw (eq-eqb x 32 e)) (λ x xs other. rw (ne_eqb x 32 other) (omega arith)) rest r found
 
-  pub between_some : leb start end && leb end (length text) ≡ true → take (end - start) (drop start text) ≡ between_of text start end
-  unfolding between_of
-  between_some e = rw e
-
-  pub between_none : leb start end && leb end (length text) ≡ false → [] ≡ between_of text start end
-  unfolding between_of
-  between_none e = rw e
-
--- ---- the end of a part: the loop at a place of the text
-
-module _ (text : List ℕ) (at : ℕ) where
-  end_within : at ≤ length text → part_end text at ≡ at + before_space (drop at text)
-  unfolding part_end
-  end_within l = rw (le-leb at (length text) l)
-
-  pub end_space : at < length text → get_or text at 0 ≡ 32 → at ≡ part_end text at
-  unfolding before_space
-  end_space l e =
-      let first : eqb (get_or text at 0) 32 ≡ true = eq-eqb (get_or text at 0) 32 e in
-      let step : before_space (get_or text at 0 ∷ drop (suc at) text) ≡ 0 = rw first in
-      let none : before_space (drop at text) ≡ 0 = ap before_space (drop-cons text at 0 l) ∙ step in
-      omega (arith, end_within (omega arith))
-
-  before_turned : at < length text → (get_or text at 0 ≡ 32 → ⊥) → before_space (drop at text) ≡ suc (before_space (drop (at + 1) text))
-  unfolding before_space
-  before_turned l other =
-      let first : eqb (get_or text at 0) 32 ≡ false = ne_eqb (get_or text at 0) 32 other in
-      let step : before_space (get_or text at 0 ∷ drop (suc at) text) ≡ suc (before_space (drop (suc at) text)) = rw first in
-      rw add-one (ap before_space (drop-cons text at 0 l) ∙ step)
-
-  pub end_past : length text ≤ at → length text ≡ part_end text at
-  unfolding part_end before_space
-  end_past l = by (leb at (length text)) refl
-    where
-      by : (b : Bool) → leb at (length text) ≡ b → length text ≡ cond b (at + before_space (drop at text)) (length text)
-      by true e =
-          let h : at ≤ length text = leb-true at (length text) e in
-          let none : before_space (drop at text) ≡ 0 = ap before_space (drop_of_length-le text {i = at} l) in
-          omega arith
-      by false e = refl
-
--- no part ends at a byte that is no space
-pub end_turned : (text : List ℕ) (at end : ℕ) → part_end text at ≡ end → at < length text → (get_or text at 0 ≡ 32 → ⊥) → part_end text (at + 1) ≡ end
-end_turned text at end so l other =
-    omega (arith, end_within text at (omega arith), end_within text (at + 1) (omega arith), before_turned text at l other)
+pub end_is : (text : List ℕ) (start from n : ℕ) → from ≡ min start (length text) → n ≡ before_space (drop from text) → from + n ≡ part_end text start
+unfolding part_end before_space
+end_is text start from n f e =
+    dite (dec_le start (length text))
+    (λ inside.
+    let same : from ≡ start = omega arith in
+    rw (le-leb start (length text) inside, e, same))
+    (λ past.
+    let behind = lt_of_not-le past in
+    let all : from ≡ length text = omega arith in
+    let none : before_space (drop from text) ≡ 0 = ap before_space (drop_of_length-le text {i = from} (omega arith)) in
+    rw (lt-leb start (length text) behind) (omega (arith, e, none)))

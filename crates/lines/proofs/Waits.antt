@@ -9,7 +9,7 @@ use mathlib.Core.Logic.{dite}
 use mathlib.Core.List.{List, [], ◌∷◌, ◌++◌}
 use lib.Dec.{leb}
 use lib.ListN.{length, set, take, drop}
-use lib.Seq.{set_split, take_all, drop-drop}
+use lib.Seq.{set_split, drop-drop}
 use borrow.Author.Tests.{leb-true, le-leb, lt-leb, lt-ltb, le-ltb}
 use borrow.Rule.Slice.PartMut.{put_mid}
 use Rattle.lines.specs.Sinks.{block_bytes, fits_behind, place_after, put_at, block_after}
@@ -118,12 +118,3 @@ stored block at byte l =
 -- a text was copied into the part of the block from a place on
 pub copied : (block text last : List ℕ) (at n : ℕ) → n ≡ length text → last ≡ text → put_mid at n block last ≡ put_at block at text
 copied block text last at n m q = rw (q, m) (ap (λ (z : List ℕ). take at block ++ (text ++ z)) (drop-drop (length text) at block))
-
--- ---- what goes out
-
-module _ (block : List ℕ) (count : ℕ) where
-  pub front_some : take (count - 0) (drop 0 block) ≡ take count block
-  front_some = ap (λ (n : ℕ). take n block) {x = count - 0} {y = count} (omega arith)
-
-  pub front_all : length block ≤ count → block ≡ take count block
-  front_all l = sym (take_all count block l)

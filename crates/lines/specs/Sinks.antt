@@ -1,6 +1,7 @@
 -- The bytes that wait in a sink, and where (01 Bench cards; 02 c; the blocks are the house's): they stand at the front of the block that is lent.
 -- What a file then holds no definition can say. Assumes nothing.
-use Rattle.std.specs.Prelude.{ℕ, zero, suc, ◌+◌, ◌/◌, ◌%◌, ◌^◌, Bool, cond, List, [], ◌∷◌, ◌++◌, leb, ltb, length, take, drop}
+use Rattle.std.specs.Prelude.{ℕ, zero, suc, ◌+◌, ◌/◌, ◌%◌, ◌^◌, Bool, cond, List, [], ◌∷◌, ◌++◌, ◌≡◌, IsSome, leb, ltb, length, take, drop}
+use Rattle.lines.specs.declared.sinks.Sink.{Sink}
 
 -- The bytes of a block.
 abbrev pub block_bytes : ℕ
@@ -28,6 +29,11 @@ block_after block at text =
 -- What goes out with a text, in this order, where no write fails. No contract can say it: that the code writes this is to be read there.
 unfoldable pub goes_out : List ℕ → ℕ → List ℕ → List ℕ
 goes_out block at text = cond (fits_behind at (length text)) [] (cond (ltb (length text) block_bytes) (take at block) (take at block ++ text))
+
+-- A sink that goes on: the bytes go to the same file, and where a write has failed it stays so.
+pub record Goes (before after : Sink) : Type 0 where
+  pub file : after.fd ≡ before.fd
+  pub stays : IsSome before.failure → IsSome after.failure
 
 -- ---- words and numbers as text
 

@@ -1,6 +1,5 @@
 -- What is proved of a sink, of the text of a number, and of names. Each is proved in proofs/ under the name at its side. Assumes nothing.
-use Rattle.std.specs.Prelude.{ℕ, ◌^◌, ◌≤◌, ◌<◌, ◌≡◌, true, not, ◌&&◌, List, ◌++◌, leb, eqb, length, take}
-use Rattle.lines.specs.declared.numbers.Number.TheVariants.{Is}
+use Rattle.std.specs.Prelude.{ℕ, ◌^◌, ◌≤◌, ◌<◌, ◌≡◌, true, not, ◌&&◌, List, ◌++◌, Some, leb, eqb, length, take}
 use Rattle.lines.specs.Sinks.{block_bytes, place_after, block_after, goes_out, word_text, decimal_text}
 use Rattle.lines.specs.Spells.{line_most, place_after_line, block_after_line, goes_out_before}
 use Rattle.lines.specs.Numbers.{number_read, hexadecimal_read}
@@ -30,11 +29,11 @@ ShownPlain = (byte : ℕ) → leb 32 (shown_of byte) && not (eqb (shown_of byte)
 
 -- The decimal text of a number of 64 bits, read, is the number: decimal_back
 abbrev pub DecimalBack : Type 0
-DecimalBack = (n : ℕ) → n < 2 ^ 64 → number_read (decimal_text n) ≡ Is n
+DecimalBack = (n : ℕ) → n < 2 ^ 64 → number_read (decimal_text n) ≡ Some n
 
 -- The four capitals of a word, read as so many, are the word: word_back
 abbrev pub WordBack : Type 0
-WordBack = (word : ℕ) → word < 2 ^ 16 → hexadecimal_read (word_text word) 4 ≡ Is word
+WordBack = (word : ℕ) → word < 2 ^ 16 → hexadecimal_read (word_text word) 4 ≡ Some word
 
 -- Texts that are told to be the same are equal: same_text_lem
 abbrev pub SameText : Type 0

@@ -1,7 +1,8 @@
 // What goes to standard error, and the line that closes what failed (02 a, c, j). What the system takes of it no contract can say: a function that gives nothing promises
 // that what it is lent is as before, to which its type holds it too, and what waits for standard error is that of `put_sentence`. Meaning of the rest: specs/Sinks.antt,
 // specs/Names.antt. Refusals: none.
-ghost use Rattle.std.specs.Prelude.{◌≡◌, ◌≤◌, true, length};
+ghost use Rattle.std.specs.Prelude.{◌≡◌, ◌≤◌, length};
+ghost use Rattle.lines.specs.Sinks.{Goes};
 ghost use Rattle.lines.specs.Names.{error_text, block_after_named, place_after_sentence, block_after_sentence};
 
 use crate::sinks::{Block, ERRORS, Sink, Target};
@@ -25,12 +26,10 @@ pub fn begin_complaint(program: &[u8], name: &[u8])
 fn words_end(text: &[u8]) -> usize
     ensures within { result ≤ length text.now }
 {
-    for i in 0..text.len() {
-        if text[i] == b'(' {
-            return if i == 0 { 0 } else { i - 1 };
-        }
+    match text.iter().position(|byte| *byte == b'(') {
+        Some(place) => place.saturating_sub(1),
+        None => text.len(),
     }
-    text.len()
 }
 
 // Says what failed, with the system's reason, by its number: "PROGRAM: NAME: REASON".
@@ -72,9 +71,8 @@ impl Sink {
     // Gives the sink with the beginning of a sentence more: "PROGRAM: NAME".
     fn put_sentence(self, block: &mut Block, program: &[u8], name: &[u8]) -> Sink
         ensures place { result.at ≡ place_after_sentence self.at program.now name.now }
-        ensures file { result.fd ≡ self.fd }
         ensures block { block.new ≡ block_after_sentence block.old self.at program.now name.now }
-        ensures stays { self.failed ≡ true → result.failed ≡ true }
+        ensures goes { Goes self result }
     {
         self.put_text(block, program)
             .put_text(block, b": ")
@@ -82,27 +80,25 @@ impl Sink {
     }
 
     // Gives the sink with all that waited written, and says a failure of this flush, as one of standard output. Who puts lines must have flushed, or looked at
-    // `failed`, before: a failure of a put is not said here.
-    // Tables: block and program are only read. Refusals: none; `failed` says whether a write has failed.
+    // `failure`, before: a failure of a put is not said here.
+    // Tables: block and program are only read. Refusals: none; `failure` says whether a write has failed.
     pub fn flush_told(self, block: &Block, program: &[u8]) -> Sink
         ensures place { result.at ≡ 0 }
-        ensures file { result.fd ≡ self.fd }
-        ensures stays { self.failed ≡ true → result.failed ≡ true }
+        ensures goes { Goes self result }
     {
         let after = self.flush(block);
-        if after.failed & !self.failed {
-            complain(program, b"standard output", after.why);
+        if let (None, Some(why)) = (self.failure, after.failure) {
+            complain(program, b"standard output", why);
         }
         after
     }
 
     // Ends the lines by the name of the file that failed: "# error NAME". Those that wait go out first, so that a failure of theirs is seen.
-    // Tables: block holds that line where it waits, from the front on; program and name are only read. Refusals: none; `failed` says whether a write has failed.
+    // Tables: block holds that line where it waits, from the front on; program and name are only read. Refusals: none; `failure` says whether a write has failed.
     pub fn end_in_error(self, block: &mut Block, program: &[u8], name: &[u8]) -> Sink
         ensures place { result.at ≡ 0 }
-        ensures file { result.fd ≡ self.fd }
         ensures block { block.new ≡ block_after_named block.old 0 error_text name.now }
-        ensures stays { self.failed ≡ true → result.failed ≡ true }
+        ensures goes { Goes self result }
     {
         let flushed = self.flush_told(block, program);
         let ended = flushed.put_named(block, b"# error ", name);
@@ -110,12 +106,11 @@ impl Sink {
     }
 
     // Says what failed, by the system's number for it, and ends the lines by its name.
-    // Tables: block holds that line where it waits, from the front on; program and name are only read. Refusals: none; `failed` says whether a write has failed.
+    // Tables: block holds that line where it waits, from the front on; program and name are only read. Refusals: none; `failure` says whether a write has failed.
     pub fn fail(self, block: &mut Block, program: &[u8], name: &[u8], why: i32) -> Sink
         ensures place { result.at ≡ 0 }
-        ensures file { result.fd ≡ self.fd }
         ensures block { block.new ≡ block_after_named block.old 0 error_text name.now }
-        ensures stays { self.failed ≡ true → result.failed ≡ true }
+        ensures goes { Goes self result }
     {
         complain(program, name, why);
         self.end_in_error(block, program, name)

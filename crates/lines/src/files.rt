@@ -21,26 +21,25 @@ pub fn number_of(error: Error) -> i32 {
     error.raw_os_error().unwrap_or(0)
 }
 
+// Gives a name as the text that files are opened by.
+fn text_of(name: &[u8]) -> Result<&str, i32> {
+    std::str::from_utf8(name).map_err(|_| NO_TEXT)
+}
+
 // Opens the file of a name to read it, or gives the system's number for why it could not.
 // Tables: name is only read. Refusals: none.
 pub fn open_named(rt: HostRuntime, name: &[u8]) -> Result<File, i32> {
-    match std::str::from_utf8(name) {
-        Ok(text) => File::open(&rt, text).map_err(number_of),
-        Err(_) => Err(NO_TEXT),
-    }
+    File::open(&rt, text_of(name)?).map_err(number_of)
 }
 
 // Makes the file of a name, which must not exist, to write it, or gives the system's number for why it could not.
 // Tables: name is only read. Refusals: none.
 pub fn make_named(rt: HostRuntime, name: &[u8]) -> Result<File, i32> {
-    match std::str::from_utf8(name) {
-        Ok(text) => OpenOptions::new()
-            .write(true)
-            .create_new(true)
-            .open(&rt, text)
-            .map_err(number_of),
-        Err(_) => Err(NO_TEXT),
-    }
+    OpenOptions::new()
+        .write(true)
+        .create_new(true)
+        .open(&rt, text_of(name)?)
+        .map_err(number_of)
 }
 
 // Gives the system's number for why a write to a file that was made failed, 0 where it has none: it tries one byte more, and takes it back where the system takes it.
@@ -66,18 +65,9 @@ impl Source<'_> {
         ensures count { IfOk result (λ count. count ≤ length chunk.new) }
     {
         let got = match self {
-            Source::Input(input) => {
-                let mut from = input;
-                from.read(chunk)
-            }
-            Source::Opened(file) => {
-                let mut from = file;
-                from.read(chunk)
-            }
+            Source::Input(mut input) => input.read(chunk),
+            Source::Opened(mut file) => file.read(chunk),
         };
-        match got {
-            Ok(count) => Ok(count),
-            Err(error) => Err(number_of(error)),
-        }
+        got.map_err(number_of)
     }
 }

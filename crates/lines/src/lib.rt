@@ -14,7 +14,7 @@ mod spells;
 pub use complaints::{begin_complaint, complain, hold_errors, remark};
 pub use files::{Source, failure_of, make_named, number_of, open_named};
 pub use names::{NAME_BYTES, is_dash, is_same};
-pub use numbers::{NO_DIGIT, Number, read_decimal, read_digit, read_hexadecimal};
+pub use numbers::{read_decimal, read_digit, read_hexadecimal};
 pub use parts::{between, part_end};
 pub use sinks::{Block, Sink, Target};
 pub use spells::{LINE_MOST, spell_byte, spell_decimal, spell_number, spell_text, spell_word};

@@ -10,17 +10,7 @@ pub const NAME_BYTES: usize = 4095;
 pub fn is_same(text: &[u8], wanted: &[u8]) -> bool
     ensures answer { result ≡ same_text text.now wanted.now }
 {
-    if text.len() != wanted.len() {
-        return false;
-    }
-    let mut i = 0;
-    while i < text.len() {
-        if text[i] != wanted[i] {
-            return false;
-        }
-        i += 1;
-    }
-    true
+    text == wanted
 }
 
 // Says whether a name is a dash alone.
@@ -35,8 +25,5 @@ pub fn is_dash(name: &[u8]) -> bool
 pub(crate) fn shown(byte: u8) -> u8
     ensures byte { result ≡ shown_of byte }
 {
-    if (byte < 0x20) | (byte == 0x7F) {
-        return b'?';
-    }
-    byte
+    if byte.is_ascii_control() { b'?' } else { byte }
 }

@@ -6,102 +6,55 @@ ghost use Rattle.lines.specs.Numbers.{number_after, number_read, digit_value, he
 // the most digits of a number below 2^64
 const DIGITS_MOST: usize = 20;
 
-// the largest number of 64 bits
-const NUMBER_MOST: u64 = 0xFFFF_FFFF_FFFF_FFFF;
-
 // the most hexadecimal digits of a number below 2^64
 const HEXADECIMAL_MOST: usize = 16;
 
-// what `read_digit` gives of a byte that is no digit
-pub const NO_DIGIT: u8 = 16;
-
-// The number that a text spells, or that it spells none.
-#[derive(Clone, Copy)]
-pub enum Number {
-    Is(u64),
-    None,
-}
-
 // Gives the number below 2^64 that 1 to 20 decimal digits spell, zeros in front among them. Anything else is None.
 // Tables: text is only read. Refusals: none.
-pub fn read_decimal(text: &[u8]) -> Number
+pub fn read_decimal(text: &[u8]) -> Option<u64>
     ensures number { result ≡ number_read text.now }
 {
-    if text.len() == 0 {
-        return Number::None;
+    if text.is_empty() || text.len() > DIGITS_MOST {
+        return None;
     }
-    if text.len() > DIGITS_MOST {
-        return Number::None;
+    let mut value = 0;
+    for byte in text {
+        value = with_digit(value, *byte)?;
     }
-    let mut value: u64 = 0;
-    let mut i = 0;
-    while i < text.len() {
-        let Number::Is(next) = with_digit(value, text[i]) else {
-            return Number::None;
-        };
-        value = next;
-        i += 1;
-    }
-    Number::Is(value)
+    Some(value)
 }
 
 // Gives the number with one digit more, or None where the byte is no digit or the number does not fit.
-fn with_digit(value: u64, byte: u8) -> Number
+fn with_digit(value: u64, byte: u8) -> Option<u64>
     ensures number { result ≡ number_after value (byte ∷ []) }
 {
-    if byte < b'0' {
-        return Number::None;
+    if !byte.is_ascii_digit() {
+        return None;
     }
-    if byte > b'9' {
-        return Number::None;
-    }
-    let digit = (byte - b'0') as u64;
-    if value > (NUMBER_MOST - digit) / 10 {
-        return Number::None;
-    }
-    Number::Is(value * 10 + digit)
+    value.checked_mul(10)?.checked_add(u64::from(byte - b'0'))
 }
 
-// Gives the value of a hexadecimal digit in either case, or NO_DIGIT.
+// Gives the value of a hexadecimal digit in either case, or None of a byte that is none.
 // Tables: none. Refusals: none.
-pub fn read_digit(byte: u8) -> u8
+pub fn read_digit(byte: u8) -> Option<u8>
     ensures value { result ≡ digit_value byte }
 {
-    if (byte >= b'0') & (byte <= b'9') {
-        return byte - b'0';
-    }
-    if (byte >= b'A') & (byte <= b'F') {
-        return byte - b'A' + 10;
-    }
-    if (byte >= b'a') & (byte <= b'f') {
-        return byte - b'a' + 10;
-    }
-    NO_DIGIT
+    let digit = char::from(byte).to_digit(16)?;
+    Some(digit as u8)
 }
 
 // Gives the number that exactly so many hexadecimal digits spell, 1 to 16 of them, in either case. Anything else is None.
 // Tables: text is only read. Refusals: none.
-pub fn read_hexadecimal(text: &[u8], digits: usize) -> Number
+pub fn read_hexadecimal(text: &[u8], digits: usize) -> Option<u64>
     ensures number { result ≡ hexadecimal_read text.now digits }
 {
-    if text.len() != digits {
-        return Number::None;
+    if text.len() != digits || digits == 0 || digits > HEXADECIMAL_MOST {
+        return None;
     }
-    if digits == 0 {
-        return Number::None;
+    let mut value = 0;
+    for byte in text {
+        let digit = read_digit(*byte)?;
+        value = value * 16 + u64::from(digit);
     }
-    if digits > HEXADECIMAL_MOST {
-        return Number::None;
-    }
-    let mut value: u64 = 0;
-    let mut i = 0;
-    while i < text.len() {
-        let next = read_digit(text[i]);
-        if next == NO_DIGIT {
-            return Number::None;
-        }
-        value = value * 16 + next as u64;
-        i += 1;
-    }
-    Number::Is(value)
+    Some(value)
 }

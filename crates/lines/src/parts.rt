@@ -7,10 +7,7 @@ ghost use Rattle.lines.specs.Parts.{between_of, part_end};
 pub fn between(text: &[u8], start: usize, end: usize) -> &[u8]
     ensures bytes { result.now ≡ between_of text.now start end }
 {
-    if (start <= end) & (end <= text.len()) {
-        return &text[start..end];
-    }
-    &text[0..0]
+    text.get(start..end).unwrap_or(&[])
 }
 
 // Gives where a part ends that begins at a start: at the next space, or with the text.
@@ -18,12 +15,10 @@ pub fn between(text: &[u8], start: usize, end: usize) -> &[u8]
 pub fn part_end(text: &[u8], start: usize) -> usize
     ensures place { result ≡ part_end text.now start }
 {
-    let mut end = start;
-    while end < text.len() {
-        if text[end] == b' ' {
-            return end;
-        }
-        end += 1;
-    }
-    text.len()
+    let from = start.min(text.len());
+    let rest = &text[from..];
+    from + rest
+        .iter()
+        .position(|byte| *byte == b' ')
+        .unwrap_or(rest.len())
 }

@@ -13,48 +13,44 @@ pub const LINE_MOST: usize = 512;
 // the most digits of a number below 2^64
 const DIGITS_MOST: usize = 20;
 
-// Copies a text to a place.
-fn copy_to(block: &mut [u8], at: usize, text: &[u8])
-    requires { at + length text.now ≤ length block.old }
-    ensures block { block.new ≡ put_at block.old at text.now }
-{
-    block[at..at + text.len()].copy_from_slice(text);
-}
-
-// Stores a byte at a place.
-fn store(block: &mut [u8], at: usize, byte: u8)
-    requires { at < length block.old }
-    ensures block { block.new ≡ put_at block.old at (byte ∷ []) }
-{
-    block[at] = byte;
-}
-
 // Spells a text.
 // Tables: block holds it from the place on, and is else as before; text is only read. Refusals: none.
 pub fn spell_text(block: &mut Block, at: usize, text: &[u8]) -> usize
     requires { at + length text.now ≤ block_bytes }
     ensures text { Spelled block.old at text.now block.new result }
 {
-    copy_to(block, at, text);
+    block[at..at + text.len()].copy_from_slice(text);
     at + text.len()
 }
 
-// Spells one byte.
+// Spells one byte. It is no text of one: that would be copied as any other, and lines are spelled byte by byte in many places.
 // Tables: block holds it at the place, and is else as before. Refusals: none.
 pub fn spell_byte(block: &mut Block, at: usize, byte: u8) -> usize
     requires { at + 1 ≤ block_bytes }
     ensures text { Spelled block.old at (byte ∷ []) block.new result }
 {
-    store(block, at, byte);
+    block[at] = byte;
     at + 1
 }
 
-// Gives the lowest four bits of a word as a digit: "hexadecimal is written in capitals".
-pub(crate) fn digit(word: u16) -> u8
+// Gives the lowest four bits of a word as a digit: "hexadecimal is written in capitals". `char::from_digit` gives small letters.
+fn digit(word: u16) -> u8
     ensures digit { result ≡ digit_of (word % 16) }
 {
     let low = (word % 16) as u8;
     if low < 10 { b'0' + low } else { b'7' + low }
+}
+
+// Gives a word as four hexadecimal capitals. A formatter would ask for each byte's room again.
+pub(crate) fn word_digits(word: u16) -> [u8; 4]
+    ensures digits { result ≡ word_text word }
+{
+    [
+        digit(word >> 12),
+        digit(word >> 8),
+        digit(word >> 4),
+        digit(word),
+    ]
 }
 
 // Spells a word as four hexadecimal capitals.
@@ -63,13 +59,7 @@ pub fn spell_word(block: &mut Block, at: usize, word: u16) -> usize
     requires { at + 4 ≤ block_bytes }
     ensures text { Spelled block.old at (word_text word) block.new result }
 {
-    let digits = [
-        digit(word >> 12),
-        digit(word >> 8),
-        digit(word >> 4),
-        digit(word),
-    ];
-    spell_text(block, at, &digits)
+    spell_text(block, at, &word_digits(word))
 }
 
 // Gives how many decimal digits a number has, 1 to 20.
@@ -77,14 +67,12 @@ fn count_digits(number: u64) -> usize
     ensures count { IsDigitCount 10 1 number result }
     ensures most { result ≤ 20 }
 {
-    let mut count = 1;
     let mut power: u64 = 10;
-    while count < 19 {
+    for count in 1..19 {
         if number < power {
             return count;
         }
         power *= 10;
-        count += 1;
     }
     if number < power {
         return 19;
@@ -92,7 +80,8 @@ fn count_digits(number: u64) -> usize
     DIGITS_MOST
 }
 
-// Spells the last so many decimal digits of a number, from the last two on: two a step, since a division is what takes time.
+// Spells the last so many decimal digits of a number, from the last two on: two a step, since a division is what takes time. An index counts down, since of the chunks
+// that `rchunks_exact_mut` lends a proof knows no byte afterwards.
 fn spell_digits(block: &mut [u8], at: usize, number: u64, count: usize)
     requires { at + count ≤ length block.old }
     ensures block { block.new ≡ put_at block.old at (last_digits 10 count number) }

@@ -1,16 +1,21 @@
--- Each answer has the law of the tests before it: where no space has come, a part from the place on ends where the whole one does. The measure is what is left. Assumes nothing.
-use mathlib.Core.Path.{refl, ◌∙◌}
-use Rattle.lines.proofs.Partings.{end_space, end_turned, end_past}
+-- What `position` says of the first space. Assumes nothing.
+use mathlib.Core.Path.{◌≡◌, sym, ap, ◌∙◌}
+use mathlib.Core.Logic.{◌≢◌}
+use Prim.Native.Nat.{ℕ}
+use lib.ListN.{drop}
+use Rattle.std.proofs.Common.{rules, tests}
+use Rattle.std.proofs.lemmas.Iterator.{IsFirst-from_position, YieldsList-from_slice}
+use Rattle.std.proofs.lemmas.List.{take_rest}
+use Rattle.lines.specs.Parts.{before_space}
+use Rattle.lines.proofs.Partings.{before_found, end_is}
 use Rattle.lines.proofs.parts.part_end.Goals as goal
 
-pub loop-end-init : goal.loop-end-init
-loop-end-init c = refl
-
-pub returns-then-text-end-eq32 : goal.returns-then-text-end-eq32
-returns-then-text-end-eq32 c = record { place = end_space _ _ c.loop-end-test.true c.if-text-end-eq32.true ∙ c.loop-end.invariant }
-
-pub loop-end-preserved : goal.loop-end-preserved
-loop-end-preserved c = end_turned _ _ _ c.loop-end.invariant c.loop-end-test.true c.if-text-end-eq32.false
-
 pub returns : goal.returns
-returns c = record { place = end_past _ _ c.loop-end-test.false ∙ c.loop-end.invariant }
+returns c =
+    let found =
+    before_found _ _
+    (IsFirst-from_position _ _ c.position.result (λ (b : ℕ). b ≡ 32) (λ (b : ℕ). b ≢ 32) c.position.ensures.ran (YieldsList-from_slice _ c.iter.ensures.rest)
+    (λ x q k. search (rules, tests)) (λ x q k. search (rules, tests))) in
+    let place : c.unwrap_or.result ≡ before_space (drop c.min-from.result c.args.text.now) =
+    c.unwrap_or.ensures ∙ sym found ∙ ap before_space (take_rest c.args.text.now c.min-from.result) in
+    record { place = end_is _ _ _ _ c.min-from.ensures place }

@@ -5,4 +5,4 @@ use Rattle.lines.proofs.sinks.Sink.append.Goals as goal
 pub returns : goal.returns
 returns c =
     let spelled = c.spell_text.ensures.text in
-    record { place = spelled.place; file = refl; block = spelled.bytes; same = refl }
+    record { place = spelled.place; block = spelled.bytes; goes = record { file = refl; stays = λ h. h } }

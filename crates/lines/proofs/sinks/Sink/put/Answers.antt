@@ -7,11 +7,15 @@ pub returns-then-at-lt-BLOCK_BYTES : goal.returns-then-at-lt-BLOCK_BYTES
 returns-then-at-lt-BLOCK_BYTES c =
     let room = c.if-at-lt-BLOCK_BYTES.true in
     let spelled = c.spell_byte.ensures.text in
-    record { place = spelled.place ∙ byte_place_behind _ room; file = refl; block = byte_behind _ _ _ _ room spelled.bytes; stays = λ h. h }
+    record { place = spelled.place ∙ byte_place_behind _ room; block = byte_behind _ _ _ _ room spelled.bytes; goes = record { file = refl; stays = λ h. h } }
 
 pub returns : goal.returns
 returns c =
     let none = c.if-at-lt-BLOCK_BYTES.false in
     let flushed = c.flush-next.ensures in
     let spelled = c.spell_byte-2.ensures.text in
-    record { place = spelled.place ∙ byte_place_front _ none; file = flushed.file; block = byte_front _ _ _ _ none spelled.bytes; stays = flushed.stays }
+    record {
+      place = spelled.place ∙ byte_place_front _ none;
+      block = byte_front _ _ _ _ none spelled.bytes;
+      goes = record { file = flushed.goes.file; stays = flushed.goes.stays };
+    }
