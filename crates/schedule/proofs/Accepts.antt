@@ -11,7 +11,9 @@ use Rattle.schedule.specs.Messages.{are_fit, is_refused}
 use Rattle.schedule.specs.Frames.{Placed, placed_of, frame_load, frames_all, check_of}
 use Rattle.schedule.specs.Theorems.{Sound, AcceptedExactly, FirstOffending, FirstOverloaded, FirstNamed, EmptyAccepted, MoreRoom}
 use Rattle.schedule.specs.declared.schedules.Schedule.{Schedule}
-use Rattle.schedule.specs.declared.schedules.Outcome.TheVariants.{RejectedMessage, RejectedFrame, Accepted}
+use Rattle.std.specs.Prelude.{Result, Ok, Err}
+use Rattle.schedule.specs.declared.schedules.Rejection.{Rejection}
+use Rattle.schedule.specs.declared.schedules.Rejection.TheVariants as rejection
 use Rattle.schedule.proofs.Outcomes.{placed, each, below_before, below_all, offends_at, offending_is, none_offending, fit_before, above_at, overloaded_is, none_overloaded, check_choice, accepts, accepted, named_message, named_frame}
 
 -- ---- what is accepted
@@ -19,7 +21,7 @@ use Rattle.schedule.proofs.Outcomes.{placed, each, below_before, below_all, offe
 pub accepted_exactly : AcceptedExactly
 accepted_exactly s fs cs some sized = (there, back)
   where
-    there : check_of s fs cs ≡ Accepted → Sound s fs cs
+    there : check_of s fs cs ≡ Ok tt → Sound s fs cs
     there h =
         let tests = accepted s fs cs h in
         record {
@@ -28,7 +30,7 @@ accepted_exactly s fs cs some sized = (there, back)
           fit = λ f k. fit_before (placed s fs) cs sized f k (omega arith);
         }
 
-    back : Sound s fs cs → check_of s fs cs ≡ Accepted
+    back : Sound s fs cs → check_of s fs cs ≡ Ok tt
     back sound =
         accepts s fs cs sound.taken
         (none_offending s fs some sound.taken sound.below)
@@ -65,7 +67,7 @@ empty_accepted s none fs cs sized =
 pub first_named : FirstNamed
 first_named s fs cs some sized n = (message, message_back, frame, frame_back)
   where
-    message : check_of s fs cs ≡ RejectedMessage n → FirstOffending s fs n
+    message : check_of s fs cs ≡ Err (rejection.Message n) → FirstOffending s fs n
     message h =
         let tests = named_message s fs cs n h in
         let all = each s fs some tests.0 in
@@ -76,13 +78,13 @@ first_named s fs cs some sized n = (message, message_back, frame, frame_back)
           before = λ i k. below_before s fs some tests.0 i (omega arith);
         }
 
-    message_back : FirstOffending s fs n → check_of s fs cs ≡ RejectedMessage n
+    message_back : FirstOffending s fs n → check_of s fs cs ≡ Err (rejection.Message n)
     message_back first =
         let all = each s fs some first.taken in
         let is = offending_is s fs some first.taken n (omega arith) first.before (λ k. first.offends) in
         check_choice s fs cs ∙ rw (first.taken, is, lt-ltb n (length (placed s fs)) (omega arith))
 
-    frame : check_of s fs cs ≡ RejectedFrame n → FirstOverloaded s fs cs n
+    frame : check_of s fs cs ≡ Err (rejection.Frame n) → FirstOverloaded s fs cs n
     frame h =
         let tests = named_frame s fs cs n h in
         record {
@@ -93,7 +95,7 @@ first_named s fs cs some sized n = (message, message_back, frame, frame_back)
           before = λ f k. fit_before (placed s fs) cs sized f (omega arith) (omega arith);
         }
 
-    frame_back : FirstOverloaded s fs cs n → check_of s fs cs ≡ RejectedFrame n
+    frame_back : FirstOverloaded s fs cs n → check_of s fs cs ≡ Err (rejection.Frame n)
     frame_back first =
         let none = none_offending s fs some first.taken first.below in
         let is = overloaded_is (placed s fs) cs sized n (omega arith) first.before (λ k. first.above) in

@@ -2,8 +2,8 @@
 pub mod Bounds
 pub mod Modes
 pub mod Walks
+pub mod Chains
 pub mod Fills
-pub mod Proposals
 pub mod Firsts
 pub mod Outcomes
 pub mod Accepts

@@ -2,21 +2,21 @@
 use mathlib.Core.Path.{◌≡◌, refl, sym}
 use mathlib.Core.Bool.{Bool, true, false, ◌||◌, true≢false}
 use Prim.Native.Nat.{ℕ, ◌/◌, ◌%◌}
+use Rattle.std.specs.Prelude.{Option, None, Some}
 use native.Mathlib.Omega.{arith}
 use lib.Dec.{eqb}
 use borrow.Author.Tests.{eqb-true}
 use Rattle.words.specs.Words.{transmit_of, code_of, is_broadcast}
 use Rattle.words.specs.Modes.{rows, found, listing_of, allows, is_allowed}
 use Rattle.words.specs.declared.modes.Listing.{Listing}
-use Rattle.words.specs.declared.modes.Listing.TheVariants.{Reserved, Listed}
 use Rattle.words.proofs.Table.{at_pair}
 use Rattle.words.proofs.Truth.{passes}
 use Rattle.schedule.specs.Messages.{mode_data_of, data_of}
 use Rattle.schedule.specs.Theorems.{word_in, ModeWords}
 
-abbrev is_reserved : Listing → Bool
-is_reserved Reserved = true
-is_reserved (Listed broadcast word) = false
+abbrev is_reserved : Option Listing → Bool
+is_reserved None = true
+is_reserved (Some listing) = false
 
 abbrev test : ℕ → ℕ → Bool
 test t c = is_reserved (found t c rows) || eqb (mode_data_of c) (word_in (found t c rows))
@@ -26,10 +26,10 @@ unfolding passes found rows mode_data_of
 all_pass = refl
 
 -- what is allowed is listed
-listed : (listing : Listing) (to_all : Bool) → allows listing to_all ≡ true → is_reserved listing ≡ false
+listed : (listing : Option Listing) (to_all : Bool) → allows listing to_all ≡ true → is_reserved listing ≡ false
 unfolding allows
-listed Reserved to_all h = absurd (true≢false (sym h))
-listed (Listed broadcast word) to_all h = refl
+listed None to_all h = absurd (true≢false (sym h))
+listed (Some listing) to_all h = refl
 
 pub mode_words_lem : ModeWords
 unfolding data_of listing_of is_allowed

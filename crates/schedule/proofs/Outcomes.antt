@@ -7,16 +7,17 @@ use native.Mathlib.Omega.{arith}
 use lib.Dec.{ltb, leb}
 use lib.ListN.{length, get_or, length-map, length-take}
 use borrow.Author.Tests.{ltb-true, ltb-false, leb-true, leb-false, lt-ltb, le-ltb, le-leb, lt-leb, not-false}
-use Rattle.words.specs.Refusals.{refused_schedule}
+use Rattle.std.specs.Prelude.{Result, Ok, Err}
 use Rattle.words.specs.declared.refusals.Refusal.{Refusal}
+use Rattle.words.specs.declared.refusals.Refusal.TheVariants as refusal
 use Rattle.words.proofs.Truth.{and_both}
 use Rattle.schedule.specs.Messages.{messages_most, messages_in, are_fit, is_refused}
 use Rattle.schedule.specs.Frames.{Placed, placed_of, frame_load, frames_all, loads_of, before_offending, before_overloaded, frame_outcome, outcome_of, check_of}
 use Rattle.schedule.specs.Theorems.{period_at, BelowUpTo}
 use Rattle.schedule.specs.declared.messages.Message.{Message}
 use Rattle.schedule.specs.declared.schedules.Schedule.{Schedule}
-use Rattle.schedule.specs.declared.schedules.Outcome.{Outcome}
-use Rattle.schedule.specs.declared.schedules.Outcome.TheVariants.{Refused, RejectedMessage, RejectedFrame, Accepted}
+use Rattle.schedule.specs.declared.schedules.Rejection.{Rejection}
+use Rattle.schedule.specs.declared.schedules.Rejection.TheVariants as rejection
 use Rattle.schedule.proofs.Walks.{length_placed}
 use Rattle.schedule.proofs.Fills.{load_at_lem, loads_all}
 use Rattle.schedule.proofs.Firsts.{passed_before, failed_at, stops_at, periods, is_lower, offending_by, overloaded_by}
@@ -24,26 +25,27 @@ use Rattle.schedule.proofs.Firsts.{passed_before, failed_at, stops_at, periods, 
 -- ---- an outcome, by the tests that lead to it
 
 -- the choice of the check, over the values of its tests
-abbrev choice : (refused offends overloaded : Bool) (n : Refusal) (place frame : ℕ) → Outcome
-choice refused offends overloaded n place frame = cond refused (Refused n) (cond offends (RejectedMessage place) (cond overloaded (RejectedFrame frame) Accepted))
+abbrev choice : (refused offends overloaded : Bool) (n : Refusal) (place frame : ℕ) → Result Unit Rejection
+choice refused offends overloaded n place frame =
+    cond refused (Err (rejection.Refused n)) (cond offends (Err (rejection.Message place)) (cond overloaded (Err (rejection.Frame frame)) (Ok tt)))
 
-accepted_by : (r o v : Bool) (n : Refusal) (k f : ℕ) → choice r o v n k f ≡ Accepted → (r ≡ false) × (o ≡ false) × (v ≡ false)
-accepted_by true o v n k f h = let z : ◌≡◌ {A = ℕ} 0 1 = cc in absurd (omega arith)
-accepted_by false true v n k f h = let z : ◌≡◌ {A = ℕ} 0 1 = cc in absurd (omega arith)
-accepted_by false false true n k f h = let z : ◌≡◌ {A = ℕ} 0 1 = cc in absurd (omega arith)
+accepted_by : (r o v : Bool) (n : Refusal) (k f : ℕ) → choice r o v n k f ≡ Ok tt → (r ≡ false) × (o ≡ false) × (v ≡ false)
+accepted_by true o v n k f h = absurd cc
+accepted_by false true v n k f h = absurd cc
+accepted_by false false true n k f h = absurd cc
 accepted_by false false false n k f h = (refl, refl, refl)
 
-message_by : (r o v : Bool) (n : Refusal) (k f j : ℕ) → choice r o v n k f ≡ RejectedMessage j → (r ≡ false) × (o ≡ true) × (k ≡ j)
-message_by true o v n k f j h = let z : ◌≡◌ {A = ℕ} 0 1 = cc in absurd (omega arith)
+message_by : (r o v : Bool) (n : Refusal) (k f j : ℕ) → choice r o v n k f ≡ Err (rejection.Message j) → (r ≡ false) × (o ≡ true) × (k ≡ j)
+message_by true o v n k f j h = absurd cc
 message_by false true v n k f j h = (refl, refl, cc)
-message_by false false true n k f j h = let z : ◌≡◌ {A = ℕ} 0 1 = cc in absurd (omega arith)
-message_by false false false n k f j h = let z : ◌≡◌ {A = ℕ} 0 1 = cc in absurd (omega arith)
+message_by false false true n k f j h = absurd cc
+message_by false false false n k f j h = absurd cc
 
-frame_by : (r o v : Bool) (n : Refusal) (k f j : ℕ) → choice r o v n k f ≡ RejectedFrame j → (r ≡ false) × (o ≡ false) × (v ≡ true) × (f ≡ j)
-frame_by true o v n k f j h = let z : ◌≡◌ {A = ℕ} 0 1 = cc in absurd (omega arith)
-frame_by false true v n k f j h = let z : ◌≡◌ {A = ℕ} 0 1 = cc in absurd (omega arith)
+frame_by : (r o v : Bool) (n : Refusal) (k f j : ℕ) → choice r o v n k f ≡ Err (rejection.Frame j) → (r ≡ false) × (o ≡ false) × (v ≡ true) × (f ≡ j)
+frame_by true o v n k f j h = absurd cc
+frame_by false true v n k f j h = absurd cc
 frame_by false false true n k f j h = (refl, refl, refl, cc)
-frame_by false false false n k f j h = let z : ◌≡◌ {A = ℕ} 0 1 = cc in absurd (omega arith)
+frame_by false false false n k f j h = absurd cc
 
 -- ---- the two counts, by places and frames
 
@@ -129,24 +131,24 @@ module _ (ps : List Placed) (cs : List ℕ) (sized : length cs ≡ frames_all) w
 
 module _ (s : Schedule) (fs cs : List ℕ) where
   pub check_choice : check_of s fs cs
-      ≡ choice (is_refused s) (ltb (offending s fs) (length (placed s fs))) (ltb (overloaded (placed s fs) cs) frames_all) (record { 0 = refused_schedule }) (offending s fs) (overloaded (placed s fs) cs)
+      ≡ choice (is_refused s) (ltb (offending s fs) (length (placed s fs))) (ltb (overloaded (placed s fs) cs) frames_all) refusal.Schedule (offending s fs) (overloaded (placed s fs) cs)
   unfolding check_of outcome_of frame_outcome
   check_choice = refl
 
-  pub accepts : is_refused s ≡ false → length (placed s fs) ≤ offending s fs → frames_all ≤ overloaded (placed s fs) cs → check_of s fs cs ≡ Accepted
+  pub accepts : is_refused s ≡ false → length (placed s fs) ≤ offending s fs → frames_all ≤ overloaded (placed s fs) cs → check_of s fs cs ≡ Ok tt
   accepts taken none fit = check_choice ∙ rw (taken, le-ltb _ _ none, le-ltb _ _ fit)
 
-  pub accepted : check_of s fs cs ≡ Accepted → (is_refused s ≡ false) × (length (placed s fs) ≤ offending s fs) × (frames_all ≤ overloaded (placed s fs) cs)
+  pub accepted : check_of s fs cs ≡ Ok tt → (is_refused s ≡ false) × (length (placed s fs) ≤ offending s fs) × (frames_all ≤ overloaded (placed s fs) cs)
   accepted h =
       let tests = accepted_by (is_refused s) _ _ _ _ _ (sym check_choice ∙ h) in
       (tests.0, ltb-false _ _ tests.1, ltb-false _ _ tests.2)
 
-  pub named_message : (n : ℕ) → check_of s fs cs ≡ RejectedMessage n → (is_refused s ≡ false) × (offending s fs < length (placed s fs)) × (offending s fs ≡ n)
+  pub named_message : (n : ℕ) → check_of s fs cs ≡ Err (rejection.Message n) → (is_refused s ≡ false) × (offending s fs < length (placed s fs)) × (offending s fs ≡ n)
   named_message n h =
       let tests = message_by (is_refused s) _ (ltb (overloaded (placed s fs) cs) frames_all) _ _ (overloaded (placed s fs) cs) n (sym check_choice ∙ h) in
       (tests.0, ltb-true _ _ tests.1, tests.2)
 
-  pub named_frame : (n : ℕ) → check_of s fs cs ≡ RejectedFrame n
+  pub named_frame : (n : ℕ) → check_of s fs cs ≡ Err (rejection.Frame n)
       → (is_refused s ≡ false)
       × (length (placed s fs) ≤ offending s fs)
       × (overloaded (placed s fs) cs < frames_all)

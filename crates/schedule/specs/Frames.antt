@@ -1,14 +1,12 @@
 -- Document 02, request j), "A schedule that is checked": the loads of the frames, the check, and what the planner promises. Assumes nothing.
-use Rattle.std.specs.Prelude.{ℕ, zero, suc, ◌+◌, ◌-◌, ◌%◌, ◌≡◌, Bool, false, cond, ◌&&◌, List, [], ◌∷◌, eqb, ltb, leb, length}
-use Rattle.words.specs.Refusals.{refused_schedule}
+use Rattle.std.specs.Prelude.{ℕ, zero, suc, ◌+◌, ◌-◌, ◌%◌, ◌≡◌, Bool, false, cond, ◌&&◌, List, [], ◌∷◌, eqb, ltb, leb, length, Option, None, Some, Result, Ok, Err}
+use Rattle.words.specs.declared.refusals.Refusal.{Refusal}
+use Rattle.words.specs.declared.refusals.Refusal.TheVariants as refusal
 use Rattle.schedule.specs.Messages.{messages_in, is_refused, load_of}
 use Rattle.schedule.specs.declared.messages.Message.{Message}
-use Rattle.schedule.specs.declared.planner.Proposal.{Proposal}
-use Rattle.schedule.specs.declared.planner.Proposal.TheVariants as proposal
-use Rattle.schedule.specs.declared.planner.Proposal.TheVariants.{Found, None}
 use Rattle.schedule.specs.declared.schedules.Schedule.{Schedule}
-use Rattle.schedule.specs.declared.schedules.Outcome.{Outcome}
-use Rattle.schedule.specs.declared.schedules.Outcome.TheVariants.{Refused, RejectedMessage, RejectedFrame, Accepted}
+use Rattle.schedule.specs.declared.schedules.Rejection.{Rejection}
+use Rattle.schedule.specs.declared.schedules.Rejection.TheVariants as rejection
 
 -- ---- "A planner proposes a first frame for each"
 
@@ -65,26 +63,31 @@ before_overloaded [] capacities = 0
 before_overloaded (load ∷ loads) [] = 0
 before_overloaded (load ∷ loads) (capacity ∷ capacities) = cond (leb load capacity) (suc (before_overloaded loads capacities)) 0
 
--- The frame of that number, or, behind the last, none.
-unfoldable pub frame_outcome : ℕ → Outcome
-frame_outcome frame = cond (ltb frame frames_all) (RejectedFrame frame) Accepted
+-- That number, where it is below the end, or none.
+abbrev pub found_below : ℕ → ℕ → Option ℕ
+found_below n end = cond (ltb n end) (Some n) None
+
+-- The frame of that number, or, behind the last, none: accepted.
+unfoldable pub frame_outcome : ℕ → Result Unit Rejection
+frame_outcome frame = cond (ltb frame frames_all) (Err (rejection.Frame frame)) (Ok tt)
 
 -- "A rejection names the first offending message, or else the first frame. An empty list is accepted."
-unfoldable pub outcome_of : List Placed → List ℕ → Outcome
+unfoldable pub outcome_of : List Placed → List ℕ → Result Unit Rejection
 outcome_of placed capacities =
     cond (ltb (before_offending placed) (length placed))
-    (RejectedMessage (before_offending placed))
+    (Err (rejection.Message (before_offending placed)))
     (frame_outcome (before_overloaded (loads_of placed) capacities))
 
 -- "refused with 15": before all else, whichever message it is
-unfoldable pub check_of : Schedule → List ℕ → List ℕ → Outcome
+unfoldable pub check_of : Schedule → List ℕ → List ℕ → Result Unit Rejection
 check_of schedule firsts capacities =
-    cond (is_refused schedule) (Refused (record { 0 = refused_schedule })) (outcome_of (placed_of (messages_in schedule) firsts) capacities)
+    cond (is_refused schedule) (Err (rejection.Refused refusal.Schedule)) (outcome_of (placed_of (messages_in schedule) firsts) capacities)
 
 -- ---- "A planner proposes a first frame for each; it may use any method and may say that it found none. .. The planner's own output goes through the same check."
 
--- What its answer means, of the first frames as they were lent and as they come back: a proposal is accepted by the check, and without one they are as before.
-abbrev pub Answers : Schedule → List ℕ → List ℕ → Proposal → List ℕ → Type 0
-Answers schedule capacities before Found after = check_of schedule after capacities ≡ Accepted
-Answers schedule capacities before None after = (is_refused schedule ≡ false) × (after ≡ before)
-Answers schedule capacities before (proposal.Refused refusal) after = (check_of schedule before capacities ≡ Refused refusal) × (after ≡ before)
+-- What its answer means: first frames that it proposes are accepted by the check; where it found none the schedule is not refused; and it refuses what the check
+-- refuses, whatever the first frames.
+abbrev pub Answers : Schedule → List ℕ → Result (Option (List ℕ)) Refusal → Type 0
+Answers schedule capacities (Ok (Some firsts)) = check_of schedule firsts capacities ≡ Ok tt
+Answers schedule capacities (Ok None) = is_refused schedule ≡ false
+Answers schedule capacities (Err refused) = (firsts : List ℕ) → check_of schedule firsts capacities ≡ Err (rejection.Refused refused)

@@ -1,16 +1,15 @@
 -- What is proved of schedules (02 j). Each is proved in proofs/ under the name at its side. Assumes nothing.
-use Rattle.std.specs.Prelude.{ℕ, ◌+◌, ◌%◌, ◌≤◌, ◌<◌, ◌≡◌, true, false, cond, eqb, length, get_or}
+use Rattle.std.specs.Prelude.{ℕ, ◌+◌, ◌%◌, ◌≤◌, ◌<◌, ◌≡◌, true, false, cond, eqb, length, get_or, Option, None, Some, Result, Ok, Err}
 use mathlib.Core.List.{List, [], ◌∷◌, ◌++◌, map, Perm}
 use Rattle.words.specs.Words.{is_mode}
 use Rattle.words.specs.Modes.{listing_of, is_allowed}
 use Rattle.words.specs.declared.modes.Listing.{Listing}
-use Rattle.words.specs.declared.modes.Listing.TheVariants.{Reserved, Listed}
-use Rattle.words.specs.declared.modes.ModeWord.TheVariants.{None, Sent, Received}
+use Rattle.words.specs.declared.modes.ModeWord.{ModeWord}
 use Rattle.schedule.specs.Messages.{messages_most, messages_in, with_of, is_refused, data_of, load_of}
 use Rattle.schedule.specs.Frames.{Placed, placed_of, comes_in, frame_load, frames_all, check_of}
 use Rattle.schedule.specs.declared.messages.Message.{Message}
 use Rattle.schedule.specs.declared.schedules.Schedule.{Schedule}
-use Rattle.schedule.specs.declared.schedules.Outcome.TheVariants.{RejectedMessage, RejectedFrame, Accepted}
+use Rattle.schedule.specs.declared.schedules.Rejection.TheVariants as rejection
 
 -- ---- what the check says
 
@@ -41,8 +40,8 @@ pub record Sound (schedule : Schedule) (firsts capacities : List ℕ) : Type 0 w
 abbrev pub AcceptedExactly : Type 0
 AcceptedExactly =
     (schedule : Schedule) (firsts capacities : List ℕ) → length firsts ≡ frames_all → length capacities ≡ frames_all
-    → (check_of schedule firsts capacities ≡ Accepted → Sound schedule firsts capacities)
-    × (Sound schedule firsts capacities → check_of schedule firsts capacities ≡ Accepted)
+    → (check_of schedule firsts capacities ≡ Ok tt → Sound schedule firsts capacities)
+    × (Sound schedule firsts capacities → check_of schedule firsts capacities ≡ Ok tt)
 
 -- the message at a place offends, and none before it does
 pub record FirstOffending (schedule : Schedule) (firsts : List ℕ) (place : ℕ) : Type 0 where
@@ -63,34 +62,36 @@ pub record FirstOverloaded (schedule : Schedule) (firsts capacities : List ℕ) 
 abbrev pub FirstNamed : Type 0
 FirstNamed =
     (schedule : Schedule) (firsts capacities : List ℕ) → length firsts ≡ frames_all → length capacities ≡ frames_all → (n : ℕ)
-    → (check_of schedule firsts capacities ≡ RejectedMessage n → FirstOffending schedule firsts n)
-    × (FirstOffending schedule firsts n → check_of schedule firsts capacities ≡ RejectedMessage n)
-    × (check_of schedule firsts capacities ≡ RejectedFrame n → FirstOverloaded schedule firsts capacities n)
-    × (FirstOverloaded schedule firsts capacities n → check_of schedule firsts capacities ≡ RejectedFrame n)
+    → (check_of schedule firsts capacities ≡ Err (rejection.Message n) → FirstOffending schedule firsts n)
+    × (FirstOffending schedule firsts n → check_of schedule firsts capacities ≡ Err (rejection.Message n))
+    × (check_of schedule firsts capacities ≡ Err (rejection.Frame n) → FirstOverloaded schedule firsts capacities n)
+    × (FirstOverloaded schedule firsts capacities n → check_of schedule firsts capacities ≡ Err (rejection.Frame n))
 
 -- "An empty list is accepted.", whatever the first frames and the capacities: empty_accepted
 abbrev pub EmptyAccepted : Type 0
 EmptyAccepted =
     (schedule : Schedule) → schedule.count ≡ 0
     → (firsts capacities : List ℕ) → length capacities ≡ frames_all
-    → check_of schedule firsts capacities ≡ Accepted
+    → check_of schedule firsts capacities ≡ Ok tt
 
 -- What is accepted is accepted too at capacities each of which is at least as large: more_room
 abbrev pub MoreRoom : Type 0
 MoreRoom =
     (schedule : Schedule) (firsts capacities wider : List ℕ) → length capacities ≡ frames_all → length wider ≡ frames_all
     → ((frame : ℕ) → frame < frames_all → get_or capacities frame 0 ≤ get_or wider frame 0)
-    → check_of schedule firsts capacities ≡ Accepted
-    → check_of schedule firsts wider ≡ Accepted
+    → check_of schedule firsts capacities ≡ Ok tt
+    → check_of schedule firsts wider ≡ Ok tt
 
 -- ---- the load of a message
 
 -- one for a data word in the code table, "sent" or "received"
-abbrev pub word_in : Listing → ℕ
-word_in Reserved = 0
-word_in (Listed broadcast None) = 0
-word_in (Listed broadcast Sent) = 1
-word_in (Listed broadcast Received) = 1
+abbrev pub words_by : Option ModeWord → ℕ
+words_by None = 0
+words_by (Some word) = 1
+
+abbrev pub word_in : Option Listing → ℕ
+word_in None = 0
+word_in (Some listing) = words_by listing.word
 
 -- "n being 0 or 1 for mode codes": for a mode command that the code table allows, n is what the table has under "data word": mode_words_lem
 abbrev pub ModeWords : Type 0

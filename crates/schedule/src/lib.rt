@@ -5,8 +5,7 @@
 mod messages;
 mod planner;
 mod schedules;
-mod turns;
+mod searches;
 
 pub use messages::Message;
-pub use planner::Proposal;
-pub use schedules::{Frames, Outcome, Schedule};
+pub use schedules::{Frames, Rejection, Schedule};

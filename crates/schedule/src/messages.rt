@@ -1,6 +1,6 @@
 // One message of a schedule: whether it can be scheduled, what it loads a frame with, and in which frames it comes (02 j). Meaning: specs/Messages.antt,
 // specs/Frames.antt. Refusals: none.
-ghost use Rattle.std.specs.Prelude.{◌≡◌};
+ghost use Rattle.std.specs.Prelude.{◌≡◌, ◌≤◌};
 ghost use Rattle.schedule.specs.Messages.{is_period, is_fit, mode_data_of, data_of, single_load, pair_load, load_of};
 ghost use Rattle.schedule.specs.Frames.{is_below, comes_in};
 
@@ -17,19 +17,15 @@ pub struct Message {
 }
 
 // Says whether messages can have this period.
+#[tactic(auto, unfolding(crate::specs::Messages::is_period))]
 fn is_period(period: u64) -> bool
     ensures answer { result ≡ is_period period }
 {
-    (period == 1)
-        | (period == 2)
-        | (period == 4)
-        | (period == 8)
-        | (period == 16)
-        | (period == 32)
-        | (period == 64)
+    matches!(period, 1 | 2 | 4 | 8 | 16 | 32 | 64)
 }
 
 // Gives how many data words come with a mode command.
+#[tactic(auto, unfolding(crate::specs::Messages::mode_data_of))]
 fn mode_words(code: u16) -> u64
     ensures count { result ≡ mode_data_of code }
 {
@@ -40,6 +36,7 @@ fn mode_words(code: u16) -> u64
 }
 
 // Gives how many data words come with a command.
+#[tactic(auto, unfolding(crate::specs::Messages::data_of))]
 fn data_words(command: CommandWord) -> u64
     ensures count { result ≡ data_of command.0 }
 {
@@ -49,30 +46,28 @@ fn data_words(command: CommandWord) -> u64
     command.words() as u64
 }
 
-// Gives the load of a message with one command, without the 20 of each message.
-fn single_load(command: CommandWord) -> u64
-    ensures ticks { result ≡ single_load command.0 }
+// Gives the load of a message with so many commands, one or two, by the first of them and without the 20 of each message: each command, each data word and the
+// status of each terminal that answers take 200, and each answer comes behind a gap of 100. To all terminals one answers less.
+#[tactic(auto, using(crate::proofs::Bounds::data_most), unfolding(crate::specs::Messages::single_load, crate::specs::Messages::pair_load))]
+fn load_by(command: CommandWord, commands: u64) -> u64
+    requires few { commands ≤ 2 }
+    requires some { 1 ≤ commands }
+    ensures single { commands ≡ 1 → result ≡ single_load command.0 }
+    ensures pair { commands ≡ 2 → result ≡ pair_load command.0 }
+    ensures most { result ≤ 7400 }
 {
     let words = data_words(command);
-    if command.is_broadcast() {
-        return 200 * (words + 1);
-    }
-    200 * (words + 2) + 100
-}
-
-// Gives the load of a message with two commands, by the first of them, without the 20 of each message.
-fn pair_load(command: CommandWord) -> u64
-    ensures ticks { result ≡ pair_load command.0 }
-{
-    let words = data_words(command);
-    if command.is_broadcast() {
-        return 200 * (words + 3) + 100;
-    }
-    200 * (words + 4) + 200
+    let answers = if command.is_broadcast() {
+        commands - 1
+    } else {
+        commands
+    };
+    200 * (words + commands + answers) + 100 * answers
 }
 
 impl Message {
     // Says whether the message can be scheduled: it has one of the periods, and its commands are a possible plan on whatever bus.
+    #[tactic(auto, unfolding(crate::specs::Messages::is_fit))]
     pub(crate) fn is_fit(self) -> bool
         ensures answer { result ≡ is_fit self }
     {
@@ -91,17 +86,19 @@ impl Message {
 
     // Gives the ticks that the message takes in each frame in which it comes. Any number of commands but 1 is taken for two.
     // Tables: none. Refusals: none.
+    #[tactic(auto, unfolding(crate::specs::Messages::load_of))]
     pub fn load(self) -> u64
         ensures ticks { result ≡ load_of self }
     {
         let first = self.first;
         if self.commands == 1 {
-            return single_load(first) + 20;
+            return load_by(first, 1) + 20;
         }
-        pair_load(first) + 20
+        load_by(first, 2) + 20
     }
 
     // Says whether a first frame is below the period.
+    #[tactic(auto, unfolding(crate::specs::Frames::is_below))]
     pub(crate) fn is_below(self, first: u64) -> bool
         ensures answer { result ≡ is_below (record { message = self; start = first }) }
     {
@@ -109,6 +106,7 @@ impl Message {
     }
 
     // Says whether the message comes in a frame. With a period of 0, which the check refuses, it comes in its first frame alone.
+    #[tactic(auto, unfolding(crate::specs::Frames::comes_in))]
     pub(crate) fn comes_in(self, first: u64, frame: u64) -> bool
         ensures answer { result ≡ comes_in frame (record { message = self; start = first }) }
     {

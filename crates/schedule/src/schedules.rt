@@ -1,7 +1,8 @@
 // A schedule, the loads of its frames, and the check (02 j). Meaning: specs/Messages.antt, specs/Frames.antt. Refusals: 15.
-ghost use Rattle.std.specs.Prelude.{◌≡◌, ◌≤◌, leb, length};
-ghost use Rattle.schedule.specs.Messages.{messages_most, messages_in, empty_schedule, count_after, with_of, are_fit, is_refused};
-ghost use Rattle.schedule.specs.Frames.{placed_of, part_in, frame_load, loads_of, before_offending, before_overloaded, frames_all, frame_outcome, check_of};
+ghost use Rattle.std.specs.Prelude.{◌≡◌, ◌≤◌, ◌<◌, ◌^◌, leb, length, not, position, sum_by};
+ghost use Rattle.std.specs.List.{list_all, zip};
+ghost use Rattle.schedule.specs.Messages.{messages_most, messages_in, empty_schedule, count_after, with_of, is_fit, is_refused};
+ghost use Rattle.schedule.specs.Frames.{placed_of, part_in, frame_load, loads_of, is_below, frames_all, found_below, check_of};
 
 use crate::messages::Message;
 use words::{CommandWord, Refusal};
@@ -22,16 +23,16 @@ pub struct Schedule {
     pub messages: [Message; 64],
 }
 
-// What the check says: refused, rejected for a message or for a frame, counted from 0, or accepted.
-#[derive(Clone, Copy)]
-pub enum Outcome {
+// Why the check does not accept: the schedule is refused, or it is rejected for a message or for a frame, counted from 0.
+#[derive(Clone, Copy, Debug, PartialEq, Eq)]
+pub enum Rejection {
     Refused(Refusal),
-    RejectedMessage(u64),
-    RejectedFrame(u64),
-    Accepted,
+    Message(u64),
+    Frame(u64),
 }
 
 // Gives the number of messages with one more, which is never too large to be a number.
+#[tactic(auto, unfolding(crate::specs::Messages::count_after))]
 fn counted(count: u64) -> u64
     ensures count { result ≡ count_after count }
 {
@@ -41,16 +42,6 @@ fn counted(count: u64) -> u64
     count
 }
 
-// Gives what the check says where no message offends: the frame is the first that is overloaded, or, behind the last, none is.
-fn frame_outcome(frame: u64) -> Outcome
-    ensures outcome { result ≡ frame_outcome frame }
-{
-    if frame < FRAMES as u64 {
-        return Outcome::RejectedFrame(frame);
-    }
-    Outcome::Accepted
-}
-
 // Says whether a frame is not loaded above its capacity.
 fn is_within(load: u64, capacity: u64) -> bool
     ensures answer { result ≡ leb load capacity }
@@ -58,23 +49,20 @@ fn is_within(load: u64, capacity: u64) -> bool
     load <= capacity
 }
 
-// Gives how many frames there are before the first overloaded one, 64 where none is.
-fn before_overloaded(loads: &[u64], capacities: &[u64]) -> u64
+// Gives the first frame that is overloaded, or none.
+fn first_overloaded(loads: &[u64], capacities: &[u64]) -> Option<usize>
     requires loads_len { length loads.now ≡ frames_all }
     requires capacities_len { length capacities.now ≡ frames_all }
-    ensures count { result ≡ before_overloaded loads.now capacities.now }
+    ensures first { result ≡ position (λ p. not (leb p.0 p.1)) (zip loads.now capacities.now) }
 {
-    let mut frame = 0;
-    while frame < FRAMES {
-        if !is_within(loads[frame], capacities[frame]) {
-            return frame as u64;
-        }
-        frame += 1;
-    }
-    FRAMES as u64
+    loads
+        .iter()
+        .zip(capacities)
+        .position(|(load, capacity)| !is_within(*load, *capacity))
 }
 
 // Gives what a message adds to a frame: its load, or nothing.
+#[tactic(auto, unfolding(crate::specs::Frames::part_in))]
 fn part(message: Message, first: u64, frame: u64) -> u64
     ensures ticks { result ≡ part_in frame (record { message = message; start = first }) }
 {
@@ -84,9 +72,50 @@ fn part(message: Message, first: u64, frame: u64) -> u64
     0
 }
 
+// Says whether every message can be scheduled.
+fn are_fit(messages: &[Message]) -> bool
+    ensures answer { result ≡ list_all is_fit messages.now }
+{
+    messages.iter().all(|message| message.is_fit())
+}
+
+// Gives the first message that offends, or none. Each has its first frame: there are 64.
+fn first_offending(messages: &[Message], firsts: &[u64]) -> Option<usize>
+    ensures first { result ≡ position (λ p. not (is_below (record { message = p.0; start = p.1 }))) (zip messages.now firsts.now) }
+{
+    messages
+        .iter()
+        .zip(firsts)
+        .position(|(message, first)| !message.is_below(*first))
+}
+
+// Gives the load of a frame.
+fn frame_load(messages: &[Message], firsts: &[u64], frame: u64) -> u64
+    requires fits { sum_by (λ p. part_in frame (record { message = p.0; start = p.1 })) (zip messages.now firsts.now) < 2 ^ 64 }
+    ensures ticks { result ≡ sum_by (λ p. part_in frame (record { message = p.0; start = p.1 })) (zip messages.now firsts.now) }
+{
+    messages
+        .iter()
+        .zip(firsts)
+        .map(|(message, first)| part(*message, *first, frame))
+        .sum()
+}
+
+// Fills in the load of each frame.
+pub(crate) fn fill(messages: &[Message], firsts: &[u64], loads: &mut [u64])
+    requires few { length messages.now ≤ messages_most }
+    requires all { length loads.old ≡ frames_all }
+    ensures loads { loads.new ≡ loads_of (placed_of messages.now firsts.now) }
+{
+    for (frame, load) in loads.iter_mut().enumerate() {
+        *load = frame_load(messages, firsts, frame as u64);
+    }
+}
+
 impl Schedule {
     // Gives a schedule of no messages.
     // Tables: none. Refusals: none.
+    #[tactic(auto, unfolding(crate::specs::Messages::empty_schedule))]
     pub fn empty() -> Schedule
         ensures schedule { result ≡ empty_schedule }
     {
@@ -104,6 +133,7 @@ impl Schedule {
 
     // Gives the schedule with one message more. A 65th is not kept, but counted: the schedule is then refused.
     // Tables: none. Refusals: none.
+    #[tactic(auto, unfolding(crate::specs::Messages::with_of))]
     pub fn with(self, message: Message) -> Schedule
         ensures schedule { result ≡ with_of self message }
     {
@@ -116,82 +146,21 @@ impl Schedule {
         next
     }
 
-    // Gives how many messages there are to look at: no more than there is room for.
-    pub(crate) fn held(self) -> usize
-        ensures count { result ≡ length (messages_in self) }
-        ensures few { result ≤ messages_most }
+    // Gives the messages to look at: no more than there is room for.
+    pub(crate) fn held(&self) -> &[Message]
+        ensures messages { result.now ≡ messages_in self.now }
+        ensures few { length result.now ≤ messages_most }
     {
-        if self.count > MESSAGES_MOST {
-            return MESSAGES_MOST as usize;
-        }
-        self.count as usize
-    }
-
-    // Says whether every message can be scheduled.
-    fn are_fit(self) -> bool
-        ensures answer { result ≡ are_fit (messages_in self) }
-    {
-        let held = self.held();
-        let mut i = 0;
-        while i < held {
-            if !self.messages[i].is_fit() {
-                return false;
-            }
-            i += 1;
-        }
-        true
+        let held = self.count.min(MESSAGES_MOST) as usize;
+        &self.messages[..held]
     }
 
     // Says whether the schedule is refused.
+    #[tactic(auto, using(crate::proofs::Chains::all_fit), unfolding(crate::specs::Messages::is_refused))]
     pub(crate) fn is_refused(self) -> bool
         ensures answer { result ≡ is_refused self }
     {
-        !((self.count <= MESSAGES_MOST) & self.are_fit())
-    }
-
-    // Gives how many messages there are before the first that offends, all where none does. Each has its first frame: there are 64.
-    fn before_offending(self, firsts: &[u64]) -> u64
-        requires { length firsts.now ≡ frames_all }
-        ensures count { result ≡ before_offending (placed_of (messages_in self) firsts.now) }
-        ensures each { length (placed_of (messages_in self) firsts.now) ≡ length (messages_in self) }
-    {
-        let held = self.held();
-        let mut place = 0;
-        while place < held {
-            if !self.messages[place].is_below(firsts[place]) {
-                return place as u64;
-            }
-            place += 1;
-        }
-        held as u64
-    }
-
-    // Gives the load of a frame.
-    fn frame_load(self, firsts: &[u64], frame: u64) -> u64
-        requires { length firsts.now ≡ frames_all }
-        ensures ticks { result ≡ frame_load frame (placed_of (messages_in self) firsts.now) }
-    {
-        let held = self.held();
-        let mut sum: u64 = 0;
-        let mut i = 0;
-        while i < held {
-            sum += part(self.messages[i], firsts[i], frame);
-            i += 1;
-        }
-        sum
-    }
-
-    // Fills in the load of each frame.
-    fn fill(self, firsts: &[u64], loads: &mut [u64])
-        requires firsts_len { length firsts.now ≡ frames_all }
-        requires loads_len { length loads.old ≡ frames_all }
-        ensures loads { loads.new ≡ loads_of (placed_of (messages_in self) firsts.now) }
-    {
-        let mut frame = 0;
-        while frame < FRAMES {
-            loads[frame] = self.frame_load(firsts, frame as u64);
-            frame += 1;
-        }
+        !((self.count <= MESSAGES_MOST) & are_fit(self.held()))
     }
 
     // Gives the load of each frame, also for a schedule that the check refuses.
@@ -199,23 +168,26 @@ impl Schedule {
     pub fn loads(self, firsts: &Frames, loads: &mut Frames)
         ensures loads { loads.new ≡ loads_of (placed_of (messages_in self) firsts.now) }
     {
-        self.fill(firsts, loads);
+        fill(self.held(), firsts, loads);
     }
 
     // Checks each message's first frame against its period, then each frame's load against its capacity.
     // Tables: both are only read. Refusals: 15, more than 64 messages, another period, or an impossible plan.
-    pub fn check(self, firsts: &Frames, capacities: &Frames) -> Outcome
+    #[tactic(auto, unfolding(crate::specs::Frames::check_of))]
+    pub fn check(self, firsts: &Frames, capacities: &Frames) -> Result<(), Rejection>
         ensures outcome { result ≡ check_of self firsts.now capacities.now }
     {
         if self.is_refused() {
-            return Outcome::Refused(Refusal::SCHEDULE);
+            return Err(Rejection::Refused(Refusal::Schedule));
         }
-        let before = self.before_offending(firsts);
-        if before < self.held() as u64 {
-            return Outcome::RejectedMessage(before);
+        if let Some(place) = first_offending(self.held(), firsts) {
+            return Err(Rejection::Message(place as u64));
         }
         let mut loads = [0; FRAMES];
         self.loads(firsts, &mut loads);
-        frame_outcome(before_overloaded(&loads, capacities))
+        match first_overloaded(&loads, capacities) {
+            Some(frame) => Err(Rejection::Frame(frame as u64)),
+            None => Ok(()),
+        }
     }
 }
