@@ -1,5 +1,6 @@
 -- A question: the stretches of the bytes that wait are inside them, and its answer. Assumes nothing.
 use Rattle.std.proofs.Common.{◌≡◌, ℕ, ◌+◌, ◌-◌, ◌≤◌, List, length, take, drop, ap, ◌∙◌, arith, length-drop, take_all}
+use Rattle.std.specs.Prelude.{Option}
 use Rattle.windows.specs.Windows.{waiting_in, after_taking}
 use Rattle.windows.proofs.Waiting.{waiting_few}
 use Rattle.windows.specs.declared.windows.Window.{Window}
@@ -33,7 +34,7 @@ module _ (s : Salvage) (room waiting : List ℕ) (w : waiting ≡ waiting_in s.w
           waiting_few s.window room,
         )
 
-    pub asked : (kept after : Settled) (run : Run) (window : Window) → kept ≡ settled_kept s.settled stretch → after ≡ settled_skipped kept k.bytes
+    pub asked : (kept after : Settled) (run : Option Run) (window : Window) → kept ≡ settled_kept s.settled stretch → after ≡ settled_skipped kept k.bytes
         → window ≡ after_taking s.window (stretch.bytes + k.bytes) → run ≡ run_ended s.settled stretch
         → record {
           salvage = record { first = s.first; settled = after; window = window };

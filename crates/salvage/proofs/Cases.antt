@@ -1,19 +1,16 @@
 -- The cases of the machine's steps, each from the facts that the code's tests give. Assumes nothing.
-use Rattle.std.proofs.Common.{◌≡◌, ℕ, suc, ◌+◌, ◌-◌, ◌/◌, ◌≤◌, Bool, true, false, List, [], ◌∷◌, length, get_or, take, drop, sym, refl, ap, ◌∙◌, arith, length-take, take_all, eq-eqb, ne_eqb}
+use Rattle.std.proofs.Common.{◌≡◌, ℕ, zero, suc, ◌+◌, ◌-◌, ◌/◌, ◌≤◌, Bool, true, false, List, [], ◌∷◌, length, get_or, take, drop, cond, eqb, sym, refl, ap, ◌∙◌, arith, length-take, take_all, eq-eqb, ne_eqb}
 use Rattle.words.specs.declared.refusals.Refusal.{Refusal}
+use Rattle.words.specs.declared.times.Moment.{Moment}
+use Rattle.std.specs.Prelude.{Option, Some, None, Result, Ok, Err}
 use Rattle.records.specs.Records.{last_bus, read_of}
 use Rattle.records.specs.declared.forms.WordRecord.{WordRecord}
-use Rattle.records.specs.declared.forms.Read.{Read}
-use Rattle.records.specs.declared.forms.Read.TheVariants.{Record, Refused}
 use Rattle.windows.specs.Windows.{count_of, filled_of, filled_room}
 use Rattle.windows.specs.declared.windows.Filled.{Filled}
 use Rattle.windows.proofs.Waiting.{filled_few}
 use Rattle.words.specs.Counts.{sum64}
-use Rattle.salvage.specs.Pieces.{in_time, chosen, choice_of, after_first, first_of, first_in}
+use Rattle.salvage.specs.Pieces.{in_time, choice_of, after_first, first_of, first_in, run_in, run_list, listed}
 use Rattle.salvage.specs.Machine.{place_by, place_of, settled_kept, settled_skipped, run_ended, gathered_of, one_more, begun_of, fed_by, fed_of, behind_first, room_of, is_settled_of, size_of, totals_of, ended_of}
-use Rattle.salvage.specs.declared.choices.Last.{Last}
-use Rattle.salvage.specs.declared.choices.Choice.TheVariants.{Keeps, Skips}
-use Rattle.salvage.specs.declared.choices.Place.TheVariants as place
 use Rattle.salvage.specs.declared.stretches.Stretch.{Stretch}
 use Rattle.salvage.specs.declared.salvages.First.{First}
 use Rattle.salvage.specs.declared.salvages.First.TheVariants.{Missing, Kept, Changed}
@@ -22,32 +19,23 @@ use Rattle.salvage.specs.declared.salvages.Settled.{Settled}
 use Rattle.salvage.specs.declared.salvages.Salvage.{Salvage}
 use Rattle.salvage.specs.declared.salvages.Fed.{Fed}
 use Rattle.salvage.specs.declared.salvages.Totals.{Totals}
-use Rattle.salvage.specs.declared.salvages.Ended.TheVariants.{Whole, Early}
 
 -- ---- what becomes of the bytes at a place; g is what the code read
 
-module _ (last : Last) (s : List ℕ) (g : Read) (e : g ≡ read_of last_bus s) where
-  pub choice_refused : (n : Refusal) → g ≡ Refused n → Skips ≡ choice_of last s
-  unfolding choice_of
-  choice_refused n q = ap (chosen last) (sym q ∙ e)
-
-  pub choice_kept : (r : WordRecord) (b : Bool) → g ≡ Record r → b ≡ in_time last r.time.0 → b ≡ true → Keeps r.time ≡ choice_of last s
+module _ (last : Option Moment) (s : List ℕ) (g : Result WordRecord Refusal) (e : g ≡ read_of last_bus s) where
+  pub choice_kept : (r : WordRecord) (b : Bool) → g ≡ Ok r → b ≡ in_time last r.time.0 → b ≡ true → Some r.time ≡ choice_of last s
   unfolding choice_of
   choice_kept r b q t h = rw (← e, q, ← t, h)
 
-  pub choice_late : (r : WordRecord) (b : Bool) → g ≡ Record r → b ≡ in_time last r.time.0 → b ≡ false → Skips ≡ choice_of last s
-  unfolding choice_of
-  choice_late r b q t h = rw (← e, q, ← t, h)
-
-  pub place_refused : (n : Refusal) → g ≡ Refused n → place.Skips 0 ≡ place_of last s
+  pub place_refused : (n : Refusal) → g ≡ Err n → Err 0 ≡ place_of last s
   unfolding place_of
   place_refused n q = ap (place_by last) (sym q ∙ e)
 
-  pub place_kept : (r : WordRecord) (b : Bool) → g ≡ Record r → b ≡ in_time last r.time.0 → b ≡ true → place.Keeps ≡ place_of last s
+  pub place_kept : (r : WordRecord) (b : Bool) → g ≡ Ok r → b ≡ in_time last r.time.0 → b ≡ true → Ok r.time ≡ place_of last s
   unfolding place_of
   place_kept r b q t h = rw (← e, q, ← t, h)
 
-  pub place_late : (r : WordRecord) (b : Bool) → g ≡ Record r → b ≡ in_time last r.time.0 → b ≡ false → place.Skips 1 ≡ place_of last s
+  pub place_late : (r : WordRecord) (b : Bool) → g ≡ Ok r → b ≡ in_time last r.time.0 → b ≡ false → Err 1 ≡ place_of last s
   unfolding place_of
   place_late r b q t h = rw (← e, q, ← t, h)
 
@@ -58,19 +46,28 @@ module _ (s : Settled) (stretch : Stretch) where
   unfolding settled_kept
   settled_none h = rw (eq-eqb _ _ h)
 
-  pub settled_some : {last : Last} {end place records : ℕ} → (stretch.bytes ≡ 0 → ⊥) → last ≡ stretch.last
+  pub settled_some : {last : Option Moment} {end place records : ℕ} → (stretch.bytes ≡ 0 → ⊥) → last ≡ stretch.last
       → end ≡ sum64 s.run.place s.run.length → place ≡ sum64 end stretch.bytes → records ≡ sum64 s.records (stretch.bytes / 16)
       → record { last = last; run = record { place = place; length = 0 }; records = records; skipped = s.skipped } ≡ settled_kept s stretch
   unfolding settled_kept
   settled_some h l e p r = rw (ne_eqb _ _ h, l, p, e, r)
 
-  pub run_none : stretch.bytes ≡ 0 → record { place = 0; length = 0 } ≡ run_ended s stretch
+  pub run_none : stretch.bytes ≡ 0 → None ≡ run_ended s stretch
   unfolding run_ended
   run_none h = rw (eq-eqb _ _ h)
 
-  pub run_some : (stretch.bytes ≡ 0 → ⊥) → s.run ≡ run_ended s stretch
+  pub run_some : {run : Option Run} → (stretch.bytes ≡ 0 → ⊥) → run ≡ run_in s.run → run ≡ run_ended s stretch
   unfolding run_ended
-  run_some h = rw (ne_eqb _ _ h)
+  run_some h e = rw (ne_eqb _ _ h) e
+
+-- a run, in a list
+pub run_listed : (run : Run) → run_list (run_in run) ≡ listed run.place run.length
+unfolding run_in
+run_listed run = by run.place run.length
+  where
+    by : (p n : ℕ) → run_list (cond (eqb n 0) None (Some (record { place = p; length = n }))) ≡ listed p n
+    by p zero = refl
+    by p (suc n) = rw (ne_eqb (suc n) 0 (λ h. omega arith)) refl
 
 -- ---- the first byte
 
@@ -160,16 +157,16 @@ size_by first run n f h e = e ∙ sym (ap (λ (x : First). size_of x run) h)
 
 -- ---- the end
 
-pub totals : (s : Salvage) (after : Settled) (n bytes : ℕ) → n ≡ count_of s.window → after ≡ settled_skipped s.settled n → bytes ≡ size_of s.first after.run
-    → record { first = s.first; run = after.run; records = after.records; skipped = after.skipped; bytes = bytes } ≡ totals_of s
+pub totals : (s : Salvage) (after : Settled) (n bytes : ℕ) (run : Option Run) → n ≡ count_of s.window → after ≡ settled_skipped s.settled n → bytes ≡ size_of s.first after.run → run ≡ run_in after.run
+    → record { first = s.first; run = run; records = after.records; skipped = after.skipped; bytes = bytes } ≡ totals_of s
 unfolding totals_of
-totals s after n bytes w a b = rw (b, a, w)
+totals s after n bytes run w a b r = rw (r, b, a, w)
 
 module _ (s : Salvage) (b : Bool) (e : b ≡ is_settled_of s) where
-  pub whole : (t : Totals) → b ≡ true → t ≡ totals_of s → Whole t ≡ ended_of s
+  pub whole : (t : Totals) → b ≡ true → t ≡ totals_of s → Some t ≡ ended_of s
   unfolding ended_of
   whole t h q = rw (← e, h, q)
 
-  pub early : b ≡ false → Early ≡ ended_of s
+  pub early : b ≡ false → None ≡ ended_of s
   unfolding ended_of
   early h = rw (← e, h)

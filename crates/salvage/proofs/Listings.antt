@@ -1,10 +1,10 @@
 -- Kept and skipped bytes together: every byte is in one piece, and the runs that are listed are the skipped ones. Assumes nothing.
+use Rattle.words.specs.declared.times.Moment.{Moment}
+use Rattle.std.specs.Prelude.{Option, Some, None}
 use Rattle.std.proofs.Common.{◌≡◌, ℕ, zero, suc, ◌+◌, ◌-◌, ◌*◌, ◌≤◌, Bool, true, false, List, [], ◌∷◌, ◌++◌, length, take, drop, replicate, sym, refl, ap, ◌∙◌, subst, ap₂, append_assoc, zero-add, arith, length-append, length-drop, take-append-drop, length-take-le}
 use lib.ListN.{replicate-append-replicate, length-replicate}
 use Rattle.salvage.specs.Pieces.{Piece, kept, skipped, pieces_from, pieces_of, after_first, runs_from, runs_of, records_in, skipped_in}
 use Rattle.salvage.specs.Theorems.{EachPlace, joined, flags, marks, Sixteen, in_runs, AllBytes, Apart, RunsLongest}
-use Rattle.salvage.specs.declared.choices.Last.{Last}
-use Rattle.salvage.specs.declared.choices.Last.TheVariants.{Nothing, At}
 use Rattle.salvage.specs.declared.salvages.Run.{Run}
 use Rattle.salvage.proofs.Cases.{choice_kept}
 use Rattle.salvage.proofs.Fronts.{found, choice_long, by_choice, pieces_keep, pieces_skip}
@@ -47,7 +47,7 @@ covers_kept s ps l rest =
       sixteen = (front, rest.sixteen);
     }
 
-covers_by : (fuel : ℕ) (last : Last) (s : List ℕ) → length s ≤ fuel → Covers s (pieces_from 0 last s)
+covers_by : (fuel : ℕ) (last : Option Moment) (s : List ℕ) → length s ≤ fuel → Covers s (pieces_from 0 last s)
 unfolding pieces_from
 covers_by zero last [] l = record { bytes = refl; counts = refl; flagged = refl; sixteen = tt }
 covers_by zero last (x ∷ s) l = absurd (omega arith)
@@ -56,8 +56,8 @@ covers_by (suc fuel) last (x ∷ s) l =
     by_choice last (x ∷ s) (Covers (x ∷ s) (pieces_from 0 last (x ∷ s)))
     (λ t q.
     subst (Covers (x ∷ s)) (sym (pieces_keep last (x ∷ s) t q))
-    (covers_kept (x ∷ s) (pieces_from 0 (At t) (drop 16 (x ∷ s))) (choice_long last (x ∷ s) t q)
-    (covers_by fuel (At t) (drop 16 (x ∷ s)) (omega (arith, length-drop 16 (x ∷ s))))))
+    (covers_kept (x ∷ s) (pieces_from 0 (Some t) (drop 16 (x ∷ s))) (choice_long last (x ∷ s) t q)
+    (covers_by fuel (Some t) (drop 16 (x ∷ s)) (omega (arith, length-drop 16 (x ∷ s))))))
     (λ q.
     let rest = covers_by fuel last s (omega arith) in
     subst (Covers (x ∷ s)) (sym (pieces_skip last x s q))
@@ -150,8 +150,8 @@ pub all_bytes : AllBytes
 unfolding runs_of pieces_of
 all_bytes file =
     let s = after_first file in
-    let ps = pieces_from 0 Nothing s in
-    let covers = covers_by (length s) Nothing s (omega arith) in
+    let ps = pieces_from 0 None s in
+    let covers = covers_by (length s) None s (omega arith) in
     let size : length (joined ps) ≡ length s = ap length covers.bytes in
     record {
       every_byte = covers.bytes;

@@ -1,25 +1,20 @@
 -- The stretches as the code's loops make them: what is left at a place, with what came before it, is what the whole gives. Assumes nothing.
 use Rattle.std.proofs.Common.{◌≡◌, ℕ, suc, ◌+◌, ◌-◌, ◌<◌, ◌≤◌, List, ◌∷◌, length, get_or, take, drop, sym, refl, ap, ◌∙◌, ap₂, add-zero, zero-add, arith, length-drop, drop-cons, drop-drop}
 use Rattle.words.specs.declared.times.Moment.{Moment}
+use Rattle.std.specs.Prelude.{Option, Some, None, Result, Ok, Err}
 use Rattle.salvage.specs.Pieces.{choice_of}
 use Rattle.salvage.specs.Machine.{longer, kept_from, skipped_from, place_of, strays_in, skips_from}
-use Rattle.salvage.specs.declared.choices.Last.{Last}
-use Rattle.salvage.specs.declared.choices.Last.TheVariants.{At}
-use Rattle.salvage.specs.declared.choices.Choice.{Choice}
-use Rattle.salvage.specs.declared.choices.Choice.TheVariants.{Keeps, Skips}
-use Rattle.salvage.specs.declared.choices.Place.{Place}
-use Rattle.salvage.specs.declared.choices.Place.TheVariants as place
 use Rattle.salvage.specs.declared.stretches.Stretch.{Stretch}
-use Rattle.salvage.proofs.Fronts.{choice_short, choice_sixteen, place_sixteen, kept_keep, kept_skip, skipped_short, skipped_one, place_skips, place_keeps, strays_next, strays_few}
+use Rattle.salvage.proofs.Fronts.{choice_short, place_sixteen, kept_keep, kept_skip, skipped_short, skipped_kept, skipped_one, place_skips, place_keeps, strays_next, strays_few}
 
 -- the 16 bytes that the code looks at
 sixteen : (s : List ℕ) (at : ℕ) → take (at + 16 - at) (drop at s) ≡ take 16 (drop at s)
 sixteen s at = ap (λ (k : ℕ). take k (drop at s)) {x = at + 16 - at} {y = 16} (omega arith)
 
--- what it chooses of the rest of the bytes
-rest_choice : (last : Last) (s : List ℕ) (at : ℕ) (g x : Choice) → 16 ≤ length s - at → g ≡ choice_of last (take (at + 16 - at) (drop at s)) → g ≡ x → choice_of last (drop at s) ≡ x
-rest_choice last s at g x l e q =
-    sym (choice_sixteen last (drop at s) (omega (arith, length-drop at s))) ∙ sym (ap (choice_of last) (sixteen s at)) ∙ sym e ∙ q
+-- what it sees of the rest of the bytes
+rest_place : (last : Option Moment) (s : List ℕ) (at : ℕ) (g x : Result Moment ℕ) → 16 ≤ length s - at → g ≡ place_of last (take (at + 16 - at) (drop at s)) → g ≡ x → place_of last (drop at s) ≡ x
+rest_place last s at g x l e q =
+    sym (place_sixteen last (drop at s) (omega (arith, length-drop at s))) ∙ sym (ap (place_of last) (sixteen s at)) ∙ sym e ∙ q
 
 -- ---- records that are kept
 
@@ -30,48 +25,48 @@ further n stretch = record { bytes = n + stretch.bytes; last = stretch.last }
 further_longer : (n : ℕ) (stretch : Stretch) → further n (longer stretch) ≡ further (n + 16) stretch
 further_longer n stretch = ap (λ (k : ℕ). record { bytes = k; last = stretch.last }) (omega arith)
 
-pub record Keeping (s : List ℕ) (first last : Last) (at : ℕ) : Type 0 where
+pub record Keeping (s : List ℕ) (first last : Option Moment) (at : ℕ) : Type 0 where
   pub inside : at ≤ length s
   pub same : kept_from first s ≡ further at (kept_from last (drop at s))
 
-pub keeping_start : (s : List ℕ) (first : Last) → Keeping s first first 0
+pub keeping_start : (s : List ℕ) (first : Option Moment) → Keeping s first first 0
 keeping_start s first = record { inside = omega arith; same = ap (λ (k : ℕ). record { bytes = k; last = (kept_from first s).last }) (sym (zero-add (kept_from first s).bytes)) }
 
-module _ (s : List ℕ) (first last : Last) (at : ℕ) (keeping : Keeping s first last at) where
+module _ (s : List ℕ) (first last : Option Moment) (at : ℕ) (keeping : Keeping s first last at) where
   stop : kept_from last (drop at s) ≡ record { bytes = 0; last = last } → record { bytes = at; last = last } ≡ kept_from first s
   stop e = ap (λ (k : ℕ). record { bytes = k; last = last }) (sym (add-zero at)) ∙ sym (ap (further at) e) ∙ sym keeping.same
 
   pub keeping_short : length s - at < 16 → record { bytes = at; last = last } ≡ kept_from first s
   keeping_short l = stop (kept_skip last (drop at s) (choice_short last (drop at s) (omega (arith, length-drop at s))))
 
-  module _ (g : Choice) (l : 16 ≤ length s - at) (e : g ≡ choice_of last (take (at + 16 - at) (drop at s))) where
-    pub keeping_stop : g ≡ Skips → record { bytes = at; last = last } ≡ kept_from first s
-    keeping_stop q = stop (kept_skip last (drop at s) (rest_choice last s at g Skips l e q))
+  module _ (g : Result Moment ℕ) (l : 16 ≤ length s - at) (e : g ≡ place_of last (take (at + 16 - at) (drop at s))) where
+    pub keeping_stop : (n : ℕ) → g ≡ Err n → record { bytes = at; last = last } ≡ kept_from first s
+    keeping_stop n q = stop (kept_skip last (drop at s) (place_skips last (drop at s) n (rest_place last s at g (Err n) l e q)).skips)
 
-    pub keeping_next : (t : Moment) → g ≡ Keeps t → Keeping s first (At t) (at + 16)
+    pub keeping_next : (t : Moment) → g ≡ Ok t → Keeping s first (Some t) (at + 16)
     keeping_next t q =
-        let choice = rest_choice last s at g (Keeps t) l e q in
+        let choice = place_keeps last (drop at s) t (rest_place last s at g (Ok t) l e q) in
         record {
           inside = omega (arith, keeping.inside);
           same =
               keeping.same
               ∙ ap (further at) (kept_keep last (drop at s) t choice)
-              ∙ further_longer at (kept_from (At t) (drop 16 (drop at s)))
-              ∙ ap (λ (k : List ℕ). further (at + 16) (kept_from (At t) k)) (drop-drop 16 at s);
+              ∙ further_longer at (kept_from (Some t) (drop 16 (drop at s)))
+              ∙ ap (λ (k : List ℕ). further (at + 16) (kept_from (Some t) k)) (drop-drop 16 at s);
         }
 
 -- ---- bytes that are skipped
 
-pub record Skipping (s : List ℕ) (last : Last) (at strays : ℕ) : Type 0 where
+pub record Skipping (s : List ℕ) (last : Option Moment) (at strays : ℕ) : Type 0 where
   pub inside : at ≤ length s
   pub same : skipped_from last s ≡ at + skipped_from last (drop at s)
   pub counted : strays ≡ strays_in at s
   pub few : strays ≤ at
 
-pub skipping_start : (s : List ℕ) (last : Last) → Skipping s last 0 0
+pub skipping_start : (s : List ℕ) (last : Option Moment) → Skipping s last 0 0
 skipping_start s last = record { inside = omega arith; same = sym (zero-add (skipped_from last s)); counted = refl; few = omega arith }
 
-module _ (s : List ℕ) (last : Last) (at strays : ℕ) (skipping : Skipping s last at strays) where
+module _ (s : List ℕ) (last : Option Moment) (at strays : ℕ) (skipping : Skipping s last at strays) where
   ends : skipped_from last (drop at s) ≡ 0 → record { bytes = at; strays = strays } ≡ skips_from last s
   ends e =
       let all : at ≡ skipped_from last s = sym (add-zero at) ∙ sym (ap (λ (k : ℕ). at + k) e) ∙ sym skipping.same in
@@ -80,25 +75,20 @@ module _ (s : List ℕ) (last : Last) (at strays : ℕ) (skipping : Skipping s l
   pub skipping_short : length s - at < 16 → record { bytes = at; strays = strays } ≡ skips_from last s
   skipping_short l = ends (skipped_short last (drop at s) (omega (arith, length-drop at s)))
 
-  module _ (g : Place) (l : 16 ≤ length s - at) (e : g ≡ place_of last (take (at + 16 - at) (drop at s))) where
-    -- what the code sees of the rest of the bytes
-    rest_place : (x : Place) → g ≡ x → place_of last (drop at s) ≡ x
-    rest_place x q =
-        sym (place_sixteen last (drop at s) (omega (arith, length-drop at s))) ∙ sym (ap (place_of last) (sixteen s at)) ∙ sym e ∙ q
+  module _ (g : Result Moment ℕ) (l : 16 ≤ length s - at) (e : g ≡ place_of last (take (at + 16 - at) (drop at s))) where
+    pub skipping_stop : (t : Moment) → g ≡ Ok t → record { bytes = at; strays = strays } ≡ skips_from last s
+    skipping_stop t q = ends (skipped_kept last (drop at s) t (place_keeps last (drop at s) t (rest_place last s at g (Ok t) l e q)))
 
-    pub skipping_stop : g ≡ place.Keeps → record { bytes = at; strays = strays } ≡ skips_from last s
-    skipping_stop q = ends (place_keeps last (drop at s) (rest_place place.Keeps q))
-
-    one : choice_of last (drop at s) ≡ Skips → skipped_from last (drop at s) ≡ skipped_from last (drop (at + 1) s) + 1
+    one : choice_of last (drop at s) ≡ None → skipped_from last (drop at s) ≡ skipped_from last (drop (at + 1) s) + 1
     one choice =
         let front : drop at s ≡ get_or s at 0 ∷ drop (at + 1) s =
         drop-cons s at 0 (omega arith) ∙ ap (λ (k : ℕ). get_or s at 0 ∷ drop k s) {x = suc at} {y = at + 1} (omega arith) in
         ap (skipped_from last) front
         ∙ skipped_one last (get_or s at 0) (drop (at + 1) s) (omega (arith, length-drop (at + 1) s)) (sym (ap (choice_of last) front) ∙ choice)
 
-    pub skipping_next : (stray : ℕ) → g ≡ place.Skips stray → Skipping s last (at + 1) (strays + stray)
+    pub skipping_next : (stray : ℕ) → g ≡ Err stray → Skipping s last (at + 1) (strays + stray)
     skipping_next stray q =
-        let passed = place_skips last (drop at s) stray (rest_place (place.Skips stray) q) in
+        let passed = place_skips last (drop at s) stray (rest_place last s at g (Err stray) l e q) in
         let counted : strays + stray ≡ strays_in (at + 1) s = ap₂ ◌+◌ skipping.counted passed.counted ∙ sym (strays_next at s) in
         record {
           inside = omega (arith, skipping.inside);
@@ -108,5 +98,5 @@ module _ (s : List ℕ) (last : Last) (at strays : ℕ) (skipping : Skipping s l
         }
 
     -- the count fits, since no place counts more than once
-    pub stray_fits : (stray : ℕ) → g ≡ place.Skips stray → strays + stray ≤ length s
+    pub stray_fits : (stray : ℕ) → g ≡ Err stray → strays + stray ≤ length s
     stray_fits stray q = omega (arith, (skipping_next stray q).few)

@@ -1,4 +1,6 @@
 -- Whatever the calls, what the machine has given and what still waits make up the definition's result. Assumes nothing.
+use Rattle.words.specs.declared.times.Moment.{Moment}
+use Rattle.std.specs.Prelude.{Option, Some, None}
 use Rattle.std.proofs.Common.{◌≡◌, ℕ, zero, suc, ◌+◌, ◌-◌, ◌/◌, ◌^◌, ◌<◌, ◌≤◌, Bool, true, false, cond, eqb, ltb, List, [], ◌∷◌, ◌++◌, length, take, drop, sym, refl, ap, ◌∙◌, subst, ap₂, append_assoc, append-nil, zero-add, arith, length-append, length-drop, take-append-drop, take-take, drop-drop, ltb-false, ltb-true}
 use native.Mathlib.Decide.{dec_le}
 use mathlib.Core.Logic.{dite}
@@ -6,11 +8,9 @@ use lib.Seq.{take-nil}
 use Rattle.windows.specs.Windows.{count_of, waiting_in, filled_of, filled_room}
 use Rattle.windows.proofs.Waiting.{waiting_count, taken_waits, taken_count, taken_inside, filled_waits, filled_few, filled_some}
 use Rattle.words.specs.Counts.{sum64}
-use Rattle.salvage.specs.Pieces.{pieces_from, pieces_of, after_first, first_of, first_in, version_of, clean_of, listed, runs_of, changed_of, records_in, skipped_in}
+use Rattle.salvage.specs.Pieces.{pieces_from, pieces_of, after_first, first_of, first_in, version_of, clean_of, listed, run_in, run_list, runs_of, changed_of, records_in, skipped_in}
 use Rattle.salvage.specs.Machine.{kept_from, skipped_from, settled_kept, settled_skipped, run_ended, gathered_of, begun_of, fed_by, fed_of, behind_first, room_of, stretch_of, skips_of, asked_of, is_settled_of, is_changed, size_of, totals_of, ended_of}
 use Rattle.salvage.specs.Theorems.{Call, feeds, asks, Session, begun, after_call, after, Exact, ChunksDoNotMatter, FirstStays, GoesOn, GetsThere}
-use Rattle.salvage.specs.declared.choices.Last.{Last}
-use Rattle.salvage.specs.declared.choices.Last.TheVariants.{Nothing}
 use Rattle.salvage.specs.declared.stretches.Stretch.{Stretch}
 use Rattle.salvage.specs.declared.salvages.First.{First}
 use Rattle.salvage.specs.declared.salvages.First.TheVariants.{Missing, Kept, Changed}
@@ -19,8 +19,7 @@ use Rattle.salvage.specs.declared.salvages.Settled.{Settled}
 use Rattle.salvage.specs.declared.salvages.Salvage.{Salvage}
 use Rattle.salvage.specs.declared.salvages.Fed.{Fed}
 use Rattle.salvage.specs.declared.salvages.Totals.{Totals}
-use Rattle.salvage.specs.declared.salvages.Ended.TheVariants.{Whole, Early}
-use Rattle.salvage.proofs.Cases.{settled_none, settled_some, run_none, run_some}
+use Rattle.salvage.proofs.Cases.{settled_none, settled_some, run_none, run_some, run_listed}
 use Rattle.salvage.proofs.Fronts.{by_choice, kept_keep, kept_skip, kept_within, skipped_one, skipped_within}
 use Rattle.salvage.proofs.Tallies.{Tally, tally_same, tell, tell_clean, tell_runs, tell_records, tell_skipped, with_skipped, with_records, with_kept, with_none, with_some, tell_kept, tell_skips, tell_rest}
 
@@ -34,7 +33,7 @@ start_tally = record { clean = []; runs = []; place = 1; before = 0; records = 0
 
 -- of the bytes `rest` behind the first, whatever will follow them
 record Going (s : Settled) (waiting rest clean : List ℕ) (runs : List Run) : Type 0 where
-  told : (future : List ℕ) → tell start_tally (pieces_from 0 Nothing (rest ++ future)) ≡ tell (tallied s clean runs) (pieces_from 0 s.last (waiting ++ future))
+  told : (future : List ℕ) → tell start_tally (pieces_from 0 None (rest ++ future)) ≡ tell (tallied s clean runs) (pieces_from 0 s.last (waiting ++ future))
   places : s.run.place + s.run.length + length waiting ≡ 1 + length rest
   few_records : s.records ≤ s.run.place
   few_skipped : s.skipped ≤ s.run.place + s.run.length
@@ -43,7 +42,7 @@ record Going (s : Settled) (waiting rest clean : List ℕ) (runs : List Run) : T
 going_fed : (s : Settled) (waiting rest clean : List ℕ) (runs : List Run) (more : List ℕ) → Going s waiting rest clean runs → Going s (waiting ++ more) (rest ++ more) clean runs
 going_fed s waiting rest clean runs more going = record {
   told = λ future.
-      ap (λ (k : List ℕ). tell start_tally (pieces_from 0 Nothing k)) (append_assoc rest more future)
+      ap (λ (k : List ℕ). tell start_tally (pieces_from 0 None k)) (append_assoc rest more future)
       ∙ going.told (more ++ future)
       ∙ ap (λ (k : List ℕ). tell (tallied s clean runs) (pieces_from 0 s.last k)) (sym (append_assoc waiting more future));
   places = omega (arith, going.places, length-append waiting more, length-append rest more);
@@ -52,17 +51,17 @@ going_fed s waiting rest clean runs more going = record {
 }
 
 -- a stretch of no byte leaves the last kept
-none_last : (last : Last) (s : List ℕ) → (kept_from last s).bytes ≡ 0 → (kept_from last s).last ≡ last
+none_last : (last : Option Moment) (s : List ℕ) → (kept_from last s).bytes ≡ 0 → (kept_from last s).last ≡ last
 none_last last s h =
     by_choice last s ((kept_from last s).last ≡ last)
     (λ t q. absurd (omega (arith, h, ap (λ (k : Stretch). k.bytes) (kept_keep last s t q))))
     (λ q. ap (λ (k : Stretch). k.last) (kept_skip last s q))
 
 -- asked: a stretch of records, then n bytes that are skipped; s' is what is settled with the stretch, ended the run that it ends
-record Asked (s : Settled) (waiting rest clean : List ℕ) (runs : List Run) (k : Stretch) (n : ℕ) (s' : Settled) (ended : Run) : Type 0 where
+record Asked (s : Settled) (waiting rest clean : List ℕ) (runs : List Run) (k : Stretch) (n : ℕ) (s' : Settled) (ended : Option Run) : Type 0 where
   last_same : s'.last ≡ k.last
   tally_same : with_skipped (with_kept (tallied s clean runs) (take k.bytes waiting) k.bytes) n
-      ≡ tallied (settled_skipped s' n) (clean ++ take k.bytes waiting) (runs ++ listed ended.place ended.length)
+      ≡ tallied (settled_skipped s' n) (clean ++ take k.bytes waiting) (runs ++ run_list ended)
   places : s'.run.place + sum64 s'.run.length n + (length waiting - (k.bytes + n)) ≡ 1 + length rest
   few_records : s'.records ≤ s'.run.place
   few_skipped : sum64 s'.skipped n ≤ s'.run.place + sum64 s'.run.length n
@@ -75,7 +74,7 @@ sixteenth r p l b x y few x-is y-is = omega arith
 
 module _ (s : Settled) (waiting rest clean : List ℕ) (runs : List Run) (k : Stretch) (n : ℕ) (going : Going s waiting rest clean runs)
     (small : 1 + length rest < 2 ^ 64) (inside : k.bytes + n ≤ length waiting) where
-  asked_none : k.bytes ≡ 0 → k.last ≡ s.last → Asked s waiting rest clean runs k n s (record { place = 0; length = 0 })
+  asked_none : k.bytes ≡ 0 → k.last ≡ s.last → Asked s waiting rest clean runs k n s None
   asked_none h e =
       let length_is = sum_small s.run.length n (omega (arith, going.places)) in
       let skipped_is = sum_small s.skipped n (omega (arith, going.places, going.few_skipped)) in
@@ -98,7 +97,7 @@ module _ (s : Settled) (waiting rest clean : List ℕ) (runs : List Run) (k : St
         records = sum64 s.records (k.bytes / 16);
         skipped = s.skipped;
       })
-      s.run
+      (run_in s.run)
   asked_some h =
       let end_is = sum_small s.run.place s.run.length (omega (arith, going.places)) in
       let place_is = sum_small (sum64 s.run.place s.run.length) k.bytes (omega (arith, going.places, end_is)) in
@@ -118,8 +117,8 @@ module _ (s : Settled) (waiting rest clean : List ℕ) (runs : List Run) (k : St
             ap (λ (t : Tally). with_skipped t n) (with_some (tallied s clean runs) (take k.bytes waiting) k.bytes h)
             ∙ tally_same
             (with_skipped (with_records (tallied s clean runs) (take k.bytes waiting) k.bytes) n)
-            (tallied (settled_skipped s' n) (clean ++ take k.bytes waiting) (runs ++ listed s.run.place s.run.length))
-            refl refl (sym place_all) (sym length_is) (sym records_is) (sym skipped_is);
+            (tallied (settled_skipped s' n) (clean ++ take k.bytes waiting) (runs ++ run_list (run_in s.run)))
+            refl (ap (λ (x : List Run). runs ++ x) (sym (run_listed s.run))) (sym place_all) (sym length_is) (sym records_is) (sym skipped_is);
         places = omega (arith, going.places, place_all, length_is);
         few_records = sixteenth s.records s.run.place s.run.length k.bytes _ _ going.few_records records_is place_all;
         few_skipped = omega (arith, going.few_skipped, place_all, length_is, skipped_is);
@@ -135,12 +134,12 @@ module _ (s : Settled) (waiting rest clean : List ℕ) (runs : List Run) (k : St
       (λ some.
       let h : k.bytes ≡ 0 → ⊥ = λ z. some (omega arith) in
       subst (λ (x : Settled). Asked s waiting rest clean runs k n x (run_ended s k)) (settled_some s k h refl refl refl refl)
-      (subst (Asked s waiting rest clean runs k n _) (run_some s k h) (asked_some h)))
+      (subst (Asked s waiting rest clean runs k n _) (run_some s k h refl) (asked_some h)))
 
   -- what is going stays going
   going_asked : k ≡ kept_from s.last waiting → n ≡ skipped_from k.last (drop k.bytes waiting)
       → Going (settled_skipped (settled_kept s k) n) (drop (k.bytes + n) waiting) rest (clean ++ take k.bytes waiting)
-      (runs ++ listed (run_ended s k).place (run_ended s k).length)
+      (runs ++ run_list (run_ended s k))
   going_asked k-is n_is =
       let t = tallied s clean runs in
       let a = asked (λ h. ap (λ (x : Stretch). x.last) k-is ∙ none_last s.last waiting (sym (ap (λ (x : Stretch). x.bytes) k-is) ∙ h)) in
@@ -149,7 +148,7 @@ module _ (s : Settled) (waiting rest clean : List ℕ) (runs : List Run) (k : St
             going.told future
             ∙ subst (λ (x : Stretch). tell t (pieces_from 0 s.last (waiting ++ future)) ≡ tell (with_kept t (take x.bytes waiting) x.bytes) (pieces_from 0 x.last (drop x.bytes waiting ++ future))) (sym k-is) (tell_kept t s.last waiting future)
             ∙ subst (λ (x : ℕ). tell (with_kept t (take k.bytes waiting) k.bytes) (pieces_from 0 k.last (drop k.bytes waiting ++ future)) ≡ tell (with_skipped (with_kept t (take k.bytes waiting) k.bytes) x) (pieces_from 0 k.last (drop x (drop k.bytes waiting) ++ future))) (sym n_is) (tell_skips (with_kept t (take k.bytes waiting) k.bytes) k.last (drop k.bytes waiting) future)
-            ∙ ap₂ tell a.tally_same (ap₂ (λ (l : Last) (w : List ℕ). pieces_from 0 l (w ++ future)) (sym a.last_same) (drop-drop n k.bytes waiting));
+            ∙ ap₂ tell a.tally_same (ap₂ (λ (l : Option Moment) (w : List ℕ). pieces_from 0 l (w ++ future)) (sym a.last_same) (drop-drop n k.bytes waiting));
         places = omega (arith, a.places, length-drop (k.bytes + n) waiting);
         few_records = a.few_records;
         few_skipped = a.few_skipped;
@@ -253,8 +252,8 @@ reached_asked c r small =
       inside = taken_inside s.window c.room (k.bytes + n) r.inside;
       first = r.first;
       going =
-          subst (λ (x : List ℕ). Going (settled_skipped (settled_kept s.settled k) n) x (after_first c.taken) (c.clean ++ take k.bytes (drop s.window.from c.room)) (c.runs ++ listed (run_ended s.settled k).place (run_ended s.settled k).length)) (sym (taken_waits s.window c.room (k.bytes + n)))
-          (subst (λ (x : List ℕ). Going (settled_skipped (settled_kept s.settled k) n) (drop (k.bytes + n) w) (after_first c.taken) (c.clean ++ x) (c.runs ++ listed (run_ended s.settled k).place (run_ended s.settled k).length)) given
+          subst (λ (x : List ℕ). Going (settled_skipped (settled_kept s.settled k) n) x (after_first c.taken) (c.clean ++ take k.bytes (drop s.window.from c.room)) (c.runs ++ run_list (run_ended s.settled k))) (sym (taken_waits s.window c.room (k.bytes + n)))
+          (subst (λ (x : List ℕ). Going (settled_skipped (settled_kept s.settled k) n) (drop (k.bytes + n) w) (after_first c.taken) (c.clean ++ x) (c.runs ++ run_list (run_ended s.settled k))) given
           (going_asked s.settled w (after_first c.taken) c.clean c.runs k n r.going (behind_small c.taken small) few refl refl));
     }
 
@@ -285,13 +284,13 @@ record Finished (s : Salvage) (t : Totals) : Type 0 where
   settled : count_of s.window < 16
   totals : t ≡ totals_of s
 
-finished : (s : Salvage) (t : Totals) → ended_of s ≡ Whole t → Finished s t
+finished : (s : Salvage) (t : Totals) → ended_of s ≡ Some t → Finished s t
 unfolding ended_of is_settled_of
 finished s t e = by (ltb (count_of s.window) 16) refl e
   where
-    by : (b : Bool) → ltb (count_of s.window) 16 ≡ b → cond b (Whole (totals_of s)) Early ≡ Whole t → Finished s t
+    by : (b : Bool) → ltb (count_of s.window) 16 ≡ b → cond b (Some (totals_of s)) None ≡ Some t → Finished s t
     by true h q = record { settled = ltb-true (count_of s.window) 16 h; totals = cc }
-    by false h q = let z : ◌≡◌ {A = ℕ} 0 1 = cc in absurd (omega arith)
+    by false h q = absurd cc
 
 changed_is : (taken : List ℕ) → is_changed (first_in taken) ≡ changed_of taken
 unfolding changed_of first_of first_in is_changed
@@ -317,13 +316,13 @@ exact_totals c r small few =
     let s = c.salvage.settled in
     let count = count_of c.salvage.window in
     let w = waiting_in c.salvage.window c.room in
-    let ps = pieces_from 0 Nothing (after_first c.taken) in
+    let ps = pieces_from 0 None (after_first c.taken) in
     let t = tallied s c.clean c.runs in
     let places = r.going.places in
     let long : length w ≡ count = waiting_count c.salvage.window c.room r.inside in
     let all = behind_small c.taken small in
     let told : tell start_tally ps ≡ with_skipped t (length w) =
-    ap (λ (k : List ℕ). tell start_tally (pieces_from 0 Nothing k)) (sym (append-nil (after_first c.taken)))
+    ap (λ (k : List ℕ). tell start_tally (pieces_from 0 None k)) (sym (append-nil (after_first c.taken)))
     ∙ r.going.told []
     ∙ ap (λ (k : List ℕ). tell t (pieces_from 0 s.last k)) (append-nil w)
     ∙ tell_rest t s.last w (omega (arith, long)) in
@@ -334,7 +333,8 @@ exact_totals c r small few =
     record {
       clean = ap₂ (λ (f : First) (k : List ℕ). version_of f ∷ k) r.first (sym (ap (λ (x : Tally). x.clean) told) ∙ tell_clean start_tally ps);
       runs =
-          ap (λ (n : ℕ). c.runs ++ listed s.run.place n) length_is
+          ap (λ (x : List Run). c.runs ++ x) (run_listed (record { place = s.run.place; length = sum64 s.run.length count }))
+          ∙ ap (λ (n : ℕ). c.runs ++ listed s.run.place n) length_is
           ∙ sym (ap (λ (x : Tally). x.runs ++ listed x.place x.before) told)
           ∙ tell_runs start_tally ps;
       first = ap is_changed r.first ∙ changed_is c.taken;
@@ -345,7 +345,7 @@ exact_totals c r small few =
           ∙ size_is c.taken (record { place = s.run.place; length = sum64 s.run.length count }) (omega (arith, length_is, places)) small;
     }
 
-exact : (c : Session) (t : Totals) → Reached c → length c.taken < 2 ^ 64 → ended_of c.salvage ≡ Whole t → Exact c t
+exact : (c : Session) (t : Totals) → Reached c → length c.taken < 2 ^ 64 → ended_of c.salvage ≡ Some t → Exact c t
 exact c t r small e =
     let f = finished c.salvage t e in
     subst (Exact c) (sym f.totals) (exact_totals c r small f.settled)
@@ -385,7 +385,7 @@ inside_after c (feeds chunk ∷ calls) l = inside_after (after_call c (feeds chu
 inside_after c (asks ∷ calls) l = inside_after (after_call c asks) calls (inside_asked c.salvage c.room l)
 
 -- of 16 bytes or more, one at least is settled
-some_settled : (last : Last) (w : List ℕ) → 16 ≤ length w → 0 < (kept_from last w).bytes + skipped_from (kept_from last w).last (drop (kept_from last w).bytes w)
+some_settled : (last : Option Moment) (w : List ℕ) → 16 ≤ length w → 0 < (kept_from last w).bytes + skipped_from (kept_from last w).last (drop (kept_from last w).bytes w)
 some_settled last [] l = absurd (omega arith)
 some_settled last (x ∷ w) l =
     by_choice last (x ∷ w) _

@@ -1,13 +1,12 @@
 -- A tally of the pieces so far, kept piece by piece: what the definition gives of a whole file. Assumes nothing.
+use Rattle.words.specs.declared.times.Moment.{Moment}
+use Rattle.std.specs.Prelude.{Option, Some, None}
 use Rattle.std.proofs.Common.{◌≡◌, ℕ, zero, suc, ◌+◌, ◌/◌, ◌<◌, ◌≤◌, cond, eqb, List, [], ◌∷◌, ◌++◌, length, take, drop, sym, refl, ap, ◌∙◌, subst, ap₂, append_assoc, append-nil, add-zero, lt_of_not-le, arith, length-drop, drop-drop, take-add, eq-eqb, ne_eqb}
 use native.Mathlib.Decide.{dec_le}
 use mathlib.Core.Logic.{dite}
 use lib.Seq.{take-append-le, drop-append-le}
 use Rattle.salvage.specs.Pieces.{choice_of, Piece, kept, skipped, pieces_from, kept_bytes, listed, runs_from, records_in, skipped_in}
 use Rattle.salvage.specs.Machine.{kept_from, skipped_from}
-use Rattle.salvage.specs.declared.choices.Last.{Last}
-use Rattle.salvage.specs.declared.choices.Last.TheVariants.{At}
-use Rattle.salvage.specs.declared.choices.Choice.TheVariants.{Skips}
 use Rattle.salvage.specs.declared.stretches.Stretch.{Stretch}
 use Rattle.salvage.specs.declared.salvages.Run.{Run}
 use Rattle.salvage.proofs.Fronts.{choice_short, choice_long, choice_front, by_choice, pieces_keep, pieces_skip, kept_keep, kept_skip, skipped_short, skipped_kept, skipped_one}
@@ -127,33 +126,33 @@ kept_on t s n =
     ∙ sym whole)
 
 -- what a tally comes to with a stretch, of bytes that others follow
-abbrev Kept : Tally → Last → List ℕ → List ℕ → Stretch → Type 0
+abbrev Kept : Tally → Option Moment → List ℕ → List ℕ → Stretch → Type 0
 Kept t last s after k =
     tell t (pieces_from 0 last (s ++ after)) ≡ tell (with_kept t (take k.bytes s) k.bytes) (pieces_from 0 k.last (drop k.bytes s ++ after))
 
-kept_none_lem : (t : Tally) (last : Last) (s after : List ℕ) → choice_of last s ≡ Skips → Kept t last s after (kept_from last s)
+kept_none_lem : (t : Tally) (last : Option Moment) (s after : List ℕ) → choice_of last s ≡ None → Kept t last s after (kept_from last s)
 kept_none_lem t last s after q =
     subst (Kept t last s after) (sym (kept_skip last s q))
     (ap (λ (u : Tally). tell u (pieces_from 0 last (s ++ after))) (sym (with_none t (take 0 s) 0 refl)))
 
-tell_kept_by : (fuel : ℕ) (t : Tally) (last : Last) (s after : List ℕ) → length s ≤ fuel → Kept t last s after (kept_from last s)
+tell_kept_by : (fuel : ℕ) (t : Tally) (last : Option Moment) (s after : List ℕ) → length s ≤ fuel → Kept t last s after (kept_from last s)
 tell_kept_by zero t last s after l = kept_none_lem t last s after (choice_short last s (omega arith))
 tell_kept_by (suc fuel) t last s after l =
     by_choice last s (Kept t last s after (kept_from last s))
     (λ m q.
     let long = choice_long last s m q in
-    let rest = kept_from (At m) (drop 16 s) in
+    let rest = kept_from (Some m) (drop 16 s) in
     let u = step t (kept (take 16 s)) in
-    let first : tell t (pieces_from 0 last (s ++ after)) ≡ tell u (pieces_from 0 (At m) (drop 16 s ++ after)) =
+    let first : tell t (pieces_from 0 last (s ++ after)) ≡ tell u (pieces_from 0 (Some m) (drop 16 s ++ after)) =
     ap (tell t) (pieces_keep last (s ++ after) m (choice_front last s after long ∙ q))
-    ∙ ap₂ (λ (front more : List ℕ). tell (step t (kept front)) (pieces_from 0 (At m) more)) (take-append-le 16 s after long) (drop-append-le 16 s after long) in
+    ∙ ap₂ (λ (front more : List ℕ). tell (step t (kept front)) (pieces_from 0 (Some m) more)) (take-append-le 16 s after long) (drop-append-le 16 s after long) in
     subst (Kept t last s after) (sym (kept_keep last s m q))
     (first
-    ∙ tell_kept_by fuel u (At m) (drop 16 s) after (omega (arith, length-drop 16 s))
+    ∙ tell_kept_by fuel u (Some m) (drop 16 s) after (omega (arith, length-drop 16 s))
     ∙ ap₂ (λ (v : Tally) (more : List ℕ). tell v (pieces_from 0 rest.last (more ++ after))) (kept_on t s rest.bytes) (drop-drop rest.bytes 16 s)))
     (λ q. kept_none_lem t last s after q)
 
-pub tell_kept : (t : Tally) (last : Last) (s after : List ℕ)
+pub tell_kept : (t : Tally) (last : Option Moment) (s after : List ℕ)
     → tell t (pieces_from 0 last (s ++ after))
     ≡ tell (with_kept t (take (kept_from last s).bytes s) (kept_from last s).bytes) (pieces_from 0 (kept_from last s).last (drop (kept_from last s).bytes s ++ after))
 tell_kept t last s after = tell_kept_by (length s) t last s after (omega arith)
@@ -166,13 +165,13 @@ skipped_on t x n = tally_same (with_skipped (step t (skipped x)) n) (with_skippe
 skipped_nothing : (t : Tally) → t ≡ with_skipped t 0
 skipped_nothing t = tally_same t (with_skipped t 0) refl refl refl (omega arith) refl (omega arith)
 
-abbrev Skipped : Tally → Last → List ℕ → List ℕ → ℕ → Type 0
+abbrev Skipped : Tally → Option Moment → List ℕ → List ℕ → ℕ → Type 0
 Skipped t last s after n = tell t (pieces_from 0 last (s ++ after)) ≡ tell (with_skipped t n) (pieces_from 0 last (drop n s ++ after))
 
-skipped_none : (t : Tally) (last : Last) (s after : List ℕ) (n : ℕ) → n ≡ 0 → Skipped t last s after n
+skipped_none : (t : Tally) (last : Option Moment) (s after : List ℕ) (n : ℕ) → n ≡ 0 → Skipped t last s after n
 skipped_none t last s after n q = subst (Skipped t last s after) (sym q) (ap (λ (u : Tally). tell u (pieces_from 0 last (s ++ after))) (skipped_nothing t))
 
-pub tell_skips : (t : Tally) (last : Last) (s after : List ℕ)
+pub tell_skips : (t : Tally) (last : Option Moment) (s after : List ℕ)
     → tell t (pieces_from 0 last (s ++ after)) ≡ tell (with_skipped t (skipped_from last s)) (pieces_from 0 last (drop (skipped_from last s) s ++ after))
 tell_skips t last [] after = skipped_none t last [] after (skipped_from last []) (skipped_short last [] (omega arith))
 tell_skips t last (x ∷ s) after =
@@ -190,7 +189,7 @@ tell_skips t last (x ∷ s) after =
     (λ few. skipped_none t last (x ∷ s) after (skipped_from last (x ∷ s)) (skipped_short last (x ∷ s) (lt_of_not-le few)))
 
 -- fewer than 16 bytes at the end
-pub tell_rest : (t : Tally) (last : Last) (s : List ℕ) → length s < 16 → tell t (pieces_from 0 last s) ≡ with_skipped t (length s)
+pub tell_rest : (t : Tally) (last : Option Moment) (s : List ℕ) → length s < 16 → tell t (pieces_from 0 last s) ≡ with_skipped t (length s)
 unfolding pieces_from
 tell_rest t last [] l = skipped_nothing t
 tell_rest t last (x ∷ s) l =

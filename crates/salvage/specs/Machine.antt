@@ -1,18 +1,13 @@
 -- The machine that is fed a damaged file chunk by chunk (02 c): what each of its calls gives. That together they give what Pieces.antt says of the
 -- whole file, whatever the chunks, is `chunks_do_not_matter`. Assumes nothing.
-use Rattle.std.specs.Prelude.{ℕ, zero, suc, ◌+◌, ◌/◌, Bool, true, false, cond, List, [], ◌∷◌, length, drop, ◌==◌, nat_lt}
+use Rattle.std.specs.Prelude.{ℕ, zero, suc, ◌+◌, ◌/◌, Bool, true, false, cond, List, [], ◌∷◌, length, drop, ◌==◌, nat_lt, Option, Some, None, Result, Ok, Err}
 use Rattle.words.specs.Counts.{sum64}
+use Rattle.words.specs.declared.refusals.Refusal.{Refusal}
+use Rattle.words.specs.declared.times.Moment.{Moment}
 use Rattle.records.specs.Records.{record_bytes, last_bus, record_at, read_of}
-use Rattle.records.specs.declared.forms.Read.{Read}
-use Rattle.records.specs.declared.forms.Read.TheVariants as read
+use Rattle.records.specs.declared.forms.WordRecord.{WordRecord}
 use Rattle.windows.specs.Windows.{empty_window, count_of, waiting_in, after_taking, filled_of, filled_room}
-use Rattle.salvage.specs.Pieces.{in_time, choice_of, Piece, kept, skipped, pieces_from, after_first, first_of}
-use Rattle.salvage.specs.declared.choices.Last.{Last}
-use Rattle.salvage.specs.declared.choices.Last.TheVariants.{Nothing, At}
-use Rattle.salvage.specs.declared.choices.Choice.{Choice}
-use Rattle.salvage.specs.declared.choices.Choice.TheVariants.{Keeps, Skips}
-use Rattle.salvage.specs.declared.choices.Place.{Place}
-use Rattle.salvage.specs.declared.choices.Place.TheVariants as place
+use Rattle.salvage.specs.Pieces.{in_time, choice_of, Piece, kept, skipped, pieces_from, after_first, first_of, run_in}
 use Rattle.salvage.specs.declared.stretches.Stretch.{Stretch}
 use Rattle.salvage.specs.declared.stretches.Skipped.{Skipped}
 use Rattle.salvage.specs.declared.salvages.First.{First}
@@ -23,8 +18,6 @@ use Rattle.salvage.specs.declared.salvages.Salvage.{Salvage}
 use Rattle.salvage.specs.declared.salvages.Fed.{Fed}
 use Rattle.salvage.specs.declared.salvages.Progress.{Progress}
 use Rattle.salvage.specs.declared.salvages.Totals.{Totals}
-use Rattle.salvage.specs.declared.salvages.Ended.{Ended}
-use Rattle.salvage.specs.declared.salvages.Ended.TheVariants.{Whole, Early}
 
 -- ---- stretches at the front of some bytes
 
@@ -33,45 +26,45 @@ abbrev pub longer : Stretch → Stretch
 longer stretch = record { bytes = record_bytes + stretch.bytes; last = stretch.last }
 
 -- The records at the front of some pieces.
-abbrev pub front_of : Last → List Piece → Stretch
+abbrev pub front_of : Option Moment → List Piece → Stretch
 front_of last [] = record { bytes = 0; last = last }
-front_of last (kept bytes ∷ pieces) = longer (front_of (At (record_at bytes).time) pieces)
+front_of last (kept bytes ∷ pieces) = longer (front_of (Some (record_at bytes).time) pieces)
 front_of last (skipped byte ∷ pieces) = record { bytes = 0; last = last }
 
 -- The records at the front of some bytes that are kept, one after the other.
-unfoldable pub kept_from : Last → List ℕ → Stretch
+unfoldable pub kept_from : Option Moment → List ℕ → Stretch
 kept_from last bytes = front_of last (pieces_from 0 last bytes)
 
 -- One byte more that is skipped, where the choice is to skip it.
-abbrev pub skipped_at : Choice → ℕ → ℕ
-skipped_at (Keeps time) after = 0
-skipped_at Skips after = after + 1
+abbrev pub skipped_at : Option Moment → ℕ → ℕ
+skipped_at (Some time) after = 0
+skipped_at None after = after + 1
 
 -- The bytes that are skipped, up to a record that is kept or to where fewer than 16 bytes are left.
-unfoldable pub skipped_from : Last → List ℕ → ℕ
+unfoldable pub skipped_from : Option Moment → List ℕ → ℕ
 skipped_from last [] = 0
 skipped_from last (byte ∷ rest) =
     cond (nat_lt (length (byte ∷ rest)) record_bytes) 0 (skipped_at (choice_of last (byte ∷ rest)) (skipped_from last rest))
 
--- What stands at a place among them: a record to keep, or one that is refused for its time alone, or none.
-abbrev pub place_by : Last → Read → Place
-place_by last (read.Record r) = cond (in_time last r.time.0) place.Keeps (place.Skips 1)
-place_by last (read.Refused n) = place.Skips 0
+-- What stands at a place: a record to keep, of that time; or, where a byte is skipped, so many that are refused for their time alone, one or none.
+abbrev pub place_by : Option Moment → Result WordRecord Refusal → Result Moment ℕ
+place_by last (Ok r) = cond (in_time last r.time.0) (Ok r.time) (Err 1)
+place_by last (Err n) = Err 0
 
-unfoldable pub place_of : Last → List ℕ → Place
+unfoldable pub place_of : Option Moment → List ℕ → Result Moment ℕ
 place_of last bytes = place_by last (read_of last_bus bytes)
 
 -- At how many of the first places of some bytes a record stands.
-abbrev pub stray_in : Read → ℕ
-stray_in (read.Record r) = 1
-stray_in (read.Refused n) = 0
+abbrev pub stray_in : Result WordRecord Refusal → ℕ
+stray_in (Ok r) = 1
+stray_in (Err n) = 0
 
 abbrev pub strays_in : ℕ → List ℕ → ℕ
 strays_in zero bytes = 0
 strays_in (suc places) bytes = stray_in (read_of last_bus bytes) + strays_in places (drop 1 bytes)
 
 -- Those that stand among the skipped bytes are refused for their time alone.
-abbrev pub skips_from : Last → List ℕ → Skipped
+abbrev pub skips_from : Option Moment → List ℕ → Skipped
 skips_from last bytes = record { bytes = skipped_from last bytes; strays = strays_in (skipped_from last bytes) bytes }
 
 -- ---- what is settled
@@ -96,9 +89,9 @@ settled_skipped s bytes = record {
   skipped = sum64 s.skipped bytes;
 }
 
--- The run that a stretch of records ends. Where its length is 0 there is none, and its place says nothing.
-unfoldable pub run_ended : Settled → Stretch → Run
-run_ended s stretch = cond (stretch.bytes == 0) (record { place = 0; length = 0 }) s.run
+-- The run that a stretch of records ends, where it has a byte.
+unfoldable pub run_ended : Settled → Stretch → Option Run
+run_ended s stretch = cond (stretch.bytes == 0) None (run_in s.run)
 
 -- ---- the machine
 
@@ -106,7 +99,7 @@ run_ended s stretch = cond (stretch.bytes == 0) (record { place = 0; length = 0 
 abbrev pub start_of : Salvage
 start_of = record {
   first = Missing;
-  settled = record { last = Nothing; run = record { place = 1; length = 0 }; records = 0; skipped = 0 };
+  settled = record { last = None; run = record { place = 1; length = 0 }; records = 0; skipped = 0 };
   window = empty_window;
 }
 
@@ -186,8 +179,8 @@ size_of Changed run = sum64 run.place run.length
 unfoldable pub totals_of : Salvage → Totals
 totals_of s =
     let after = settled_skipped s.settled (count_of s.window) in
-    record { first = s.first; run = after.run; records = after.records; skipped = after.skipped; bytes = size_of s.first after.run }
+    record { first = s.first; run = run_in after.run; records = after.records; skipped = after.skipped; bytes = size_of s.first after.run }
 
 -- While 16 or more wait it is too early: one of them may begin a record.
-unfoldable pub ended_of : Salvage → Ended
-ended_of s = cond (is_settled_of s) (Whole (totals_of s)) Early
+unfoldable pub ended_of : Salvage → Option Totals
+ended_of s = cond (is_settled_of s) (Some (totals_of s)) None

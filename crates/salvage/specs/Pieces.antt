@@ -1,14 +1,11 @@
 -- Document 02, request c), "Saving a damaged record file": what becomes of each byte, sentence by sentence. Assumes nothing.
-use Rattle.std.specs.Prelude.{ℕ, zero, suc, ◌+◌, Bool, true, false, cond, ◌&&◌, List, [], ◌∷◌, ◌++◌, take, ◌==◌, nat_le}
+use Rattle.std.specs.Prelude.{ℕ, zero, suc, ◌+◌, Bool, true, false, cond, ◌&&◌, List, [], ◌∷◌, ◌++◌, take, ◌==◌, nat_le, Option, Some, None, Result, Ok, Err}
 use Rattle.words.specs.Words.{since_of}
+use Rattle.words.specs.declared.refusals.Refusal.{Refusal}
+use Rattle.words.specs.declared.times.Moment.{Moment}
 use Rattle.records.specs.Records.{record_bytes, last_bus, read_of}
 use Rattle.records.specs.Files.{version}
-use Rattle.records.specs.declared.forms.Read.{Read}
-use Rattle.records.specs.declared.forms.Read.TheVariants as read
-use Rattle.salvage.specs.declared.choices.Last.{Last}
-use Rattle.salvage.specs.declared.choices.Last.TheVariants.{Nothing, At}
-use Rattle.salvage.specs.declared.choices.Choice.{Choice}
-use Rattle.salvage.specs.declared.choices.Choice.TheVariants.{Keeps, Skips}
+use Rattle.records.specs.declared.forms.WordRecord.{WordRecord}
 use Rattle.salvage.specs.declared.salvages.First.{First}
 use Rattle.salvage.specs.declared.salvages.First.TheVariants.{Missing, Kept, Changed}
 use Rattle.salvage.specs.declared.salvages.Run.{Run}
@@ -21,17 +18,17 @@ step_most = 100000000
 
 -- "not earlier than the last kept one and at most 100,000,000 ticks after it (the first kept may have any time)": the last kept of either bus, both
 -- ends kept (house)
-abbrev pub in_time : Last → ℕ → Bool
-in_time Nothing time = true
-in_time (At before) time = nat_le before.0 time && nat_le (since_of before.0 time) step_most
+abbrev pub in_time : Option Moment → ℕ → Bool
+in_time None time = true
+in_time (Some before) time = nat_le before.0 time && nat_le (since_of before.0 time) step_most
 
 -- "16 bytes that read as a record": the refusals 3, 4 and 5 of reading are asked, whether the word is valid is not (house). So 1 to 15 bytes at the end
 -- are skipped, by refusal 3.
-abbrev pub chosen : Last → Read → Choice
-chosen last (read.Record r) = cond (in_time last r.time.0) (Keeps r.time) Skips
-chosen last (read.Refused n) = Skips
+abbrev pub chosen : Option Moment → Result WordRecord Refusal → Option Moment
+chosen last (Ok r) = cond (in_time last r.time.0) (Some r.time) None
+chosen last (Err n) = None
 
-unfoldable pub choice_of : Last → List ℕ → Choice
+unfoldable pub choice_of : Option Moment → List ℕ → Option Moment
 choice_of last bytes = chosen last (read_of last_bus bytes)
 
 -- A piece of the file: the 16 bytes of a record that is kept, or one byte that is skipped.
@@ -41,16 +38,16 @@ pub data Piece : Type 0 where
 
 -- The piece at the front of some bytes, and those after it: `after n last` are the pieces of `rest`, whose first n bytes belong to the record just
 -- kept. It has 15 bytes behind its first. One that is refused for its time alone is skipped byte by byte, as any other bytes are.
-abbrev pub piece_at : Choice → Last → ℕ → List ℕ → (ℕ → Last → List Piece) → List Piece
-piece_at (Keeps time) last byte rest after = kept (take record_bytes (byte ∷ rest)) ∷ after 15 (At time)
-piece_at Skips last byte rest after = skipped byte ∷ after 0 last
+abbrev pub piece_at : Option Moment → Option Moment → ℕ → List ℕ → (ℕ → Option Moment → List Piece) → List Piece
+piece_at (Some time) last byte rest after = kept (take record_bytes (byte ∷ rest)) ∷ after 15 (Some time)
+piece_at None last byte rest after = skipped byte ∷ after 0 last
 
 -- The pieces of some bytes, of which the first `inside` belong to a record that is kept already. What it says without that count: `each_place`.
-unfoldable pub pieces_from : ℕ → Last → List ℕ → List Piece
+unfoldable pub pieces_from : ℕ → Option Moment → List ℕ → List Piece
 pieces_from inside last [] = []
 pieces_from (suc inside) last (byte ∷ rest) = pieces_from inside last rest
 pieces_from zero last (byte ∷ rest) =
-    piece_at (choice_of last (byte ∷ rest)) last byte rest (λ (inside : ℕ) (last : Last). pieces_from inside last rest)
+    piece_at (choice_of last (byte ∷ rest)) last byte rest (λ (inside : ℕ) (last : Option Moment). pieces_from inside last rest)
 
 -- "the bytes after the first"
 abbrev pub after_first : List ℕ → List ℕ
@@ -58,7 +55,7 @@ after_first [] = []
 after_first (first ∷ rest) = rest
 
 unfoldable pub pieces_of : List ℕ → List Piece
-pieces_of file = pieces_from 0 Nothing (after_first file)
+pieces_of file = pieces_from 0 None (after_first file)
 
 -- ---- "and whether the first byte was changed"
 
@@ -87,6 +84,15 @@ clean_of file = version_of (first_in file) ∷ kept_bytes (pieces_of file)
 -- ---- "and lists every skipped run by place and length"
 
 -- A run, where it has a byte.
+unfoldable pub run_in : Run → Option Run
+run_in run = cond (run.length == 0) None (Some run)
+
+-- It in a list.
+abbrev pub run_list : Option Run → List Run
+run_list None = []
+run_list (Some run) = run ∷ []
+
+-- The run of so many bytes from a place on, in a list, where it has a byte.
 abbrev pub listed : ℕ → ℕ → List Run
 listed place zero = []
 listed place (suc more) = record { place = place; length = suc more } ∷ []

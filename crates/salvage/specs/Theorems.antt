@@ -1,45 +1,40 @@
 -- What is proved of saving a damaged file (02 c). Each is proved in proofs/ under the name at its side. Assumes nothing.
-use Rattle.std.specs.Prelude.{◌≡◌, ℕ, ◌+◌, ◌-◌, ◌*◌, ◌^◌, ◌<◌, ◌≤◌, Bool, true, false, List, [], ◌∷◌, ◌++◌, length, take, drop, replicate}
+use Rattle.std.specs.Prelude.{◌≡◌, ℕ, ◌+◌, ◌-◌, ◌*◌, ◌^◌, ◌<◌, ◌≤◌, Bool, true, false, List, [], ◌∷◌, ◌++◌, length, take, drop, replicate, Option, Some, None, Ok}
 use Rattle.words.specs.declared.times.Moment.{Moment}
 use Rattle.records.specs.Records.{record_bytes, last_bus, record_at, read_of}
 use Rattle.records.specs.Files.{version, whole, walk_of}
 use Rattle.records.specs.declared.forms.WordRecord.{WordRecord}
-use Rattle.records.specs.declared.forms.Read.TheVariants.{Record}
-use Rattle.salvage.specs.Pieces.{in_time, choice_of, Piece, kept, skipped, pieces_from, pieces_of, after_first, first_in, version_of, clean_of, listed, runs_of, changed_of, records_in, skipped_in}
+use Rattle.salvage.specs.Pieces.{in_time, choice_of, Piece, kept, skipped, pieces_from, pieces_of, after_first, first_in, version_of, clean_of, run_list, runs_of, changed_of, records_in, skipped_in}
 use Rattle.salvage.specs.Machine.{start_of, fed_of, room_of, asked_of, is_settled_of, is_changed, ended_of}
-use Rattle.salvage.specs.declared.choices.Last.{Last}
-use Rattle.salvage.specs.declared.choices.Last.TheVariants.{Nothing, At}
-use Rattle.salvage.specs.declared.choices.Choice.TheVariants.{Keeps, Skips}
 use Rattle.salvage.specs.declared.salvages.Run.{Run}
 use Rattle.salvage.specs.declared.salvages.Salvage.{Salvage}
 use Rattle.salvage.specs.declared.salvages.Totals.{Totals}
-use Rattle.salvage.specs.declared.salvages.Ended.TheVariants.{Whole}
 
 -- ---- the walk
 
 -- The bytes read as a record of that time, and it is in time.
-pub record InTime (last : Last) (bytes : List ℕ) (time : Moment) : Type 0 where
+pub record InTime (last : Option Moment) (bytes : List ℕ) (time : Moment) : Type 0 where
   pub r : WordRecord
-  pub reads : read_of last_bus bytes ≡ Record r
+  pub reads : read_of last_bus bytes ≡ Ok r
   pub timed : r.time ≡ time
   pub is_in_time : in_time last r.time.0 ≡ true
 
 -- At each place the bytes from there on decide. Where 16 read as a record in time, and only there, they are kept, and the walk goes on behind them;
 -- else one is skipped: each_place
 pub record EachPlace : Type 0 where
-  pub every : (last : Last) (bytes : List ℕ) (r : WordRecord) → read_of last_bus bytes ≡ Record r → in_time last r.time.0 ≡ true → choice_of last bytes ≡ Keeps r.time
-  pub only : (last : Last) (bytes : List ℕ) (time : Moment) → choice_of last bytes ≡ Keeps time → InTime last bytes time
-  pub keeps : (last : Last) (bytes : List ℕ) (time : Moment) → choice_of last bytes ≡ Keeps time
-      → pieces_from 0 last bytes ≡ kept (take record_bytes bytes) ∷ pieces_from 0 (At time) (drop record_bytes bytes)
-  pub skips : (last : Last) (byte : ℕ) (rest : List ℕ) → choice_of last (byte ∷ rest) ≡ Skips → pieces_from 0 last (byte ∷ rest) ≡ skipped byte ∷ pieces_from 0 last rest
-  pub ends : (last : Last) → pieces_from 0 last [] ≡ []
+  pub every : (last : Option Moment) (bytes : List ℕ) (r : WordRecord) → read_of last_bus bytes ≡ Ok r → in_time last r.time.0 ≡ true → choice_of last bytes ≡ Some r.time
+  pub only : (last : Option Moment) (bytes : List ℕ) (time : Moment) → choice_of last bytes ≡ Some time → InTime last bytes time
+  pub keeps : (last : Option Moment) (bytes : List ℕ) (time : Moment) → choice_of last bytes ≡ Some time
+      → pieces_from 0 last bytes ≡ kept (take record_bytes bytes) ∷ pieces_from 0 (Some time) (drop record_bytes bytes)
+  pub skips : (last : Option Moment) (byte : ℕ) (rest : List ℕ) → choice_of last (byte ∷ rest) ≡ None → pieces_from 0 last (byte ∷ rest) ≡ skipped byte ∷ pieces_from 0 last rest
+  pub ends : (last : Option Moment) → pieces_from 0 last [] ≡ []
 
 -- ---- the clean file
 
 -- Each record is not earlier than the one before it and at most 100,000,000 ticks after it.
-abbrev pub InOrder : Last → List WordRecord → Type 0
+abbrev pub InOrder : Option Moment → List WordRecord → Type 0
 InOrder last [] = Unit {0}
-InOrder last (r ∷ rs) = (in_time last r.time.0 ≡ true) × InOrder (At r.time) rs
+InOrder last (r ∷ rs) = (in_time last r.time.0 ≡ true) × InOrder (Some r.time) rs
 
 -- The records that are kept.
 abbrev pub kept_records : List Piece → List WordRecord
@@ -50,7 +45,7 @@ kept_records (skipped byte ∷ pieces) = kept_records pieces
 -- The clean file is read without refusal, as the records that were kept, and these are in order: saved_reads
 abbrev pub SavedReads : Type 0
 SavedReads =
-    (file : List ℕ) → (walk_of (clean_of file) ≡ whole (kept_records (pieces_of file))) × InOrder Nothing (kept_records (pieces_of file))
+    (file : List ℕ) → (walk_of (clean_of file) ≡ whole (kept_records (pieces_of file))) × InOrder None (kept_records (pieces_of file))
 
 -- A file that reads, is in order and whose steps are at most 100,000,000 comes back byte for byte, nothing skipped, its first byte kept:
 -- whole_file_kept
@@ -60,7 +55,7 @@ pub record Unchanged (file : List ℕ) : Type 0 where
   pub first_kept : changed_of file ≡ false
 
 abbrev pub WholeFileKept : Type 0
-WholeFileKept = (file : List ℕ) (rs : List WordRecord) → walk_of file ≡ whole rs → InOrder Nothing rs → Unchanged file
+WholeFileKept = (file : List ℕ) (rs : List WordRecord) → walk_of file ≡ whole rs → InOrder None rs → Unchanged file
 
 -- So a clean file comes back as it is: saved_again
 abbrev pub SavedAgain : Type 0
@@ -156,7 +151,7 @@ after_call c asks =
       room = c.room;
       taken = c.taken;
       clean = c.clean ++ take asked.kept (drop asked.from c.room);
-      runs = c.runs ++ listed asked.run.place asked.run.length;
+      runs = c.runs ++ run_list asked.run;
     }
 
 abbrev pub after : Session → List Call → Session
@@ -166,7 +161,7 @@ after c (call ∷ calls) = after (after_call c call) calls
 -- All of it is what the definition says of the bytes that were taken.
 pub record Exact (c : Session) (t : Totals) : Type 0 where
   pub clean : version_of t.first ∷ c.clean ≡ clean_of c.taken
-  pub runs : c.runs ++ listed t.run.place t.run.length ≡ runs_of c.taken
+  pub runs : c.runs ++ run_list t.run ≡ runs_of c.taken
   pub first : is_changed t.first ≡ changed_of c.taken
   pub records : t.records ≡ records_in (pieces_of c.taken)
   pub skipped : t.skipped ≡ skipped_in (pieces_of c.taken)
@@ -177,7 +172,7 @@ pub record Exact (c : Session) (t : Totals) : Type 0 where
 abbrev pub ChunksDoNotMatter : Type 0
 ChunksDoNotMatter =
     (room : List ℕ) (calls : List Call) (t : Totals) → length (after (begun room) calls).taken < 2 ^ 64
-    → ended_of (after (begun room) calls).salvage ≡ Whole t → Exact (after (begun room) calls) t
+    → ended_of (after (begun room) calls).salvage ≡ Some t → Exact (after (begun room) calls) t
 
 -- What the first byte of a file is, and with it the version byte of the clean file, is known from any bytes at its front: first_stays
 abbrev pub FirstStays : Type 0

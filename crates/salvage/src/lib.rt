@@ -6,5 +6,4 @@ mod choices;
 mod salvages;
 mod stretches;
 
-pub use choices::Last;
-pub use salvages::{Ended, Fed, First, Progress, Run, Salvage, Settled, Totals};
+pub use salvages::{Fed, First, Progress, Run, Salvage, Settled, Totals};

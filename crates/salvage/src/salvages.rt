@@ -1,18 +1,18 @@
 // The machine: fed any chunk, asked for what is settled, ended (02 c). Meaning: specs/Machine.antt. Refusals: none.
 ghost use Rattle.std.specs.Prelude.{◌≡◌};
 ghost use Rattle.windows.specs.Windows.{filled_room};
-ghost use Rattle.salvage.specs.Pieces.{after_first, first_in, version_of};
+ghost use Rattle.salvage.specs.Pieces.{after_first, first_in, version_of, run_in};
 ghost use Rattle.salvage.specs.Machine.{settled_kept, settled_skipped, run_ended, size_of, gathered_of, begun_of};
 ghost use Rattle.salvage.specs.Machine.{start_of, fed_of, room_of, asked_of, is_settled_of, is_changed, totals_of, ended_of};
 
-use crate::choices::Last;
 use crate::stretches::{Stretch, keep_stretch, skip_stretch};
 use records::{RECORD_BYTES, VERSION};
 use std::num::wrapping_add_u64;
 use windows::Window;
+use words::Moment;
 
 // The first byte of the file: none has come, it is 1, or it is another.
-#[derive(Clone, Copy)]
+#[derive(Clone, Copy, Debug, PartialEq, Eq)]
 pub enum First {
     Missing,
     Kept,
@@ -55,19 +55,18 @@ impl First {
     }
 }
 
-// Skipped bytes that stand together: the place of the first, counted from 0 in the damaged file, and how many they are. A length of 0 is
-// no run, and its place says nothing.
+// Skipped bytes that stand together: the place of the first, counted from 0 in the damaged file, and how many they are.
 #[derive(Clone, Copy)]
 pub struct Run {
     pub place: u64,
     pub length: u64,
 }
 
-// What is settled so far: the last kept, the run that reaches up to here (its length is 0 where a record was kept right before), and how
-// many records were kept and bytes skipped.
+// What is settled so far: the time of the record that was kept last, of either bus; the run that reaches up to here; and how many records were kept and bytes
+// skipped. Where a record was kept right before, the run has length 0, and is no Option: its place says up to where all is settled.
 #[derive(Clone, Copy)]
 pub struct Settled {
-    pub last: Last,
+    pub last: Option<Moment>,
     pub run: Run,
     pub records: u64,
     pub skipped: u64,
@@ -89,33 +88,39 @@ pub struct Fed {
     pub taken: usize,
 }
 
-// The machine after a question; the run that has ended, of length 0 where none has; where in the room the bytes to keep stand, and how
+// The machine after a question; the run that has ended, if one has; where in the room the bytes to keep stand, and how
 // many: they come behind the run; and at how many places of the bytes skipped behind those a record stands that is refused for its time
 // alone. They all stand there until the next feed.
 #[derive(Clone, Copy)]
 pub struct Progress {
     pub salvage: Salvage,
-    pub run: Run,
+    pub run: Option<Run>,
     pub from: usize,
     pub kept: usize,
     pub strays: usize,
 }
 
-// What the bytes that were taken came to as a file: its first byte, the run at its end (length 0: none), records kept, bytes skipped, its size.
+// What the bytes that were taken came to as a file: its first byte, the run at its end, if it ends in one, records kept, bytes skipped, its size.
 #[derive(Clone, Copy)]
 pub struct Totals {
     pub first: First,
-    pub run: Run,
+    pub run: Option<Run>,
     pub records: u64,
     pub skipped: u64,
     pub bytes: u64,
 }
 
-// What an end gives; it is too early while 16 bytes or more wait. Whether more of the file would come the caller alone knows.
-#[derive(Clone, Copy)]
-pub enum Ended {
-    Whole(Totals),
-    Early,
+impl Run {
+    // Gives the run, where it has a byte.
+    #[tactic(auto, unfolding(crate::specs::Pieces::run_in))]
+    fn some(self) -> Option<Run>
+        ensures run { result ≡ run_in self }
+    {
+        if self.length == 0 {
+            return None;
+        }
+        Some(self)
+    }
 }
 
 impl Settled {
@@ -127,8 +132,7 @@ impl Settled {
             return self;
         }
         let records = stretch.bytes / RECORD_BYTES;
-        let kept = stretch.last;
-        let last = kept.anew();
+        let last = stretch.last;
         let end = wrapping_add_u64(self.run.place, self.run.length);
         let place = wrapping_add_u64(end, stretch.bytes as u64);
         Settled {
@@ -143,10 +147,8 @@ impl Settled {
     fn skip(self, bytes: u64) -> Settled
         ensures settled { result ≡ settled_skipped self bytes }
     {
-        let kept = self.last;
-        let last = kept.anew();
         Settled {
-            last,
+            last: self.last,
             run: Run {
                 place: self.run.place,
                 length: wrapping_add_u64(self.run.length, bytes),
@@ -157,16 +159,14 @@ impl Settled {
     }
 
     // Gives the run that a stretch of records ends.
-    fn ended(self, stretch: Stretch) -> Run
+    fn ended(self, stretch: Stretch) -> Option<Run>
         ensures run { result ≡ run_ended self stretch }
     {
         if stretch.bytes == 0 {
-            return Run {
-                place: 0,
-                length: 0,
-            };
+            return None;
         }
-        self.run
+        let run = self.run;
+        run.some()
     }
 }
 
@@ -191,7 +191,7 @@ impl Salvage {
         Salvage {
             first: First::Missing,
             settled: Settled {
-                last: Last::Nothing,
+                last: None,
                 run: Run {
                     place: 1,
                     length: 0,
@@ -303,21 +303,22 @@ impl Salvage {
         let run = after.run;
         Totals {
             first,
-            run,
+            run: run.some(),
             records: after.records,
             skipped: after.skipped,
             bytes: file_size(first, run),
         }
     }
 
-    // Gives what the file came to, where it has no more bytes: those that wait are skipped. While 16 or more wait, it is too early.
+    // Gives what the file came to, where it has no more bytes: those that wait are skipped. While 16 or more wait, it is too early. Whether more of the file would
+    // come the caller alone knows.
     // Tables: none. Refusals: none.
-    pub fn end(self) -> Ended
+    pub fn end(self) -> Option<Totals>
         ensures ended { result ≡ ended_of self }
     {
         if self.is_settled() {
-            return Ended::Whole(self.total());
+            return Some(self.total());
         }
-        Ended::Early
+        None
     }
 }

@@ -2,31 +2,32 @@
 ghost use Rattle.std.specs.Prelude.{◌≡◌};
 ghost use Rattle.salvage.specs.Machine.{kept_from, skips_from};
 
-use crate::choices::{Choice, Last, Place};
+use crate::choices::choose;
 use records::RECORD_BYTES;
+use words::Moment;
 
 // How many bytes are kept, and the time of the record that was kept last.
 #[derive(Clone, Copy)]
 pub(crate) struct Stretch {
     pub(crate) bytes: usize,
-    pub(crate) last: Last,
+    pub(crate) last: Option<Moment>,
 }
 
 // Gives the stretch of records at the front of the bytes that are kept, one after the other.
-pub(crate) fn keep_stretch(last: Last, bytes: &[u8]) -> Stretch
+pub(crate) fn keep_stretch(last: Option<Moment>, bytes: &[u8]) -> Stretch
     ensures stretch { result ≡ kept_from last bytes.now }
 {
     let mut kept = last;
     let mut at = 0;
     while RECORD_BYTES <= bytes.len() - at {
         let end = at + RECORD_BYTES;
-        let Choice::Keeps(time) = kept.choose(&bytes[at..end]) else {
+        let Ok(time) = choose(kept, &bytes[at..end]) else {
             return Stretch {
                 bytes: at,
                 last: kept,
             };
         };
-        kept = Last::At(time);
+        kept = Some(time);
         at = end;
     }
     Stretch {
@@ -43,14 +44,14 @@ pub(crate) struct Skipped {
 }
 
 // Gives what is skipped at the front of the bytes, up to a record that is kept or to where fewer than 16 bytes are left.
-pub(crate) fn skip_stretch(last: Last, bytes: &[u8]) -> Skipped
+pub(crate) fn skip_stretch(last: Option<Moment>, bytes: &[u8]) -> Skipped
     ensures skipped { result ≡ skips_from last bytes.now }
 {
     let mut at = 0;
     let mut strays = 0;
     while RECORD_BYTES <= bytes.len() - at {
         let end = at + RECORD_BYTES;
-        let Place::Skips(stray) = last.look(&bytes[at..end]) else {
+        let Err(stray) = choose(last, &bytes[at..end]) else {
             return Skipped { bytes: at, strays };
         };
         strays += stray;

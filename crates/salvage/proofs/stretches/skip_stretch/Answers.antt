@@ -10,7 +10,7 @@ pub returns-in_default : goal.returns-in_default
 returns-in_default c = record { skipped = search (skipping_stop, rules) }
 
 pub overflow_add-strays : goal.overflow_add-strays
-overflow_add-strays c = omega (arith, stray_fits c.args.bytes.now c.args.last c.loop-at.at c.loop-at.strays c.loop-at.invariant c.look.result c.loop-at-test.true c.look.ensures.place c.in-Skips.stray c.in-Skips.is)
+overflow_add-strays c = omega (arith, stray_fits c.args.bytes.now c.args.last c.loop-at.at c.loop-at.strays c.loop-at.invariant c.choose.result c.loop-at-test.true c.choose.ensures.place c.in-Err.stray c.in-Err.is)
 
 pub loop-at-preserved : goal.loop-at-preserved
 loop-at-preserved c = search (skipping_next, rules)
