@@ -6,6 +6,9 @@ use Prim.Native.Nat.{ℕ, suc, ◌+◌, ◌*◌, ◌^◌, ◌≤◌, ◌<◌}
 use native.Mathlib.Omega.{arith}
 use lib.Dec.{ltb, leb}
 use Rattle.std.specs.Prelude.{Option, None, Some, Result, Ok, Err}
+use mathlib.Core.Logic.{dite}
+use native.Mathlib.Decide.{dec_le}
+use borrow.Author.Tests.{le-leb, le-ltb, lt-leb, lt-ltb}
 use lib.ListN.{length, length-map}
 use Rattle.std.specs.List.{zip, list_all, position, position_or_len, sum_by}
 use Rattle.std.proofs.lemmas.List.Recursion.{same_from_clauses, is_sum_by, is_position_or_len}
@@ -30,6 +33,13 @@ kept : (b : Bool) (n : ℕ) → cond b (suc n) 0 ≡ cond (not (not b)) (1 + n) 
 kept true n = omega arith
 kept false n = refl
 
+-- above is not at most
+not_leb : (l c : ℕ) → ltb c l ≡ not (leb l c)
+not_leb l c =
+    dite (dec_le l c)
+    (λ most. rw (le-leb l c most, le-ltb c l most))
+    (λ more. let above : c < l = omega arith in rw (lt-leb l c above, lt-ltb c l above))
+
 pub first_offends : (ms : List Message) (fs : List ℕ) → position (λ p. not (is_below (pair p))) (zip ms fs) ≡ found_below (before_offending (placed_of ms fs)) (length (placed_of ms fs))
 unfolding before_offending
 first_offends ms fs =
@@ -43,14 +53,14 @@ length_pairs (x ∷ xs) [] n e f = absurd (omega (arith, e, f))
 length_pairs (x ∷ xs) (y ∷ ys) n e f = let rest = length_pairs xs ys (length xs) refl (omega (arith, e, f)) in omega (arith, e, rest)
 
 -- as many pairs stand before the first whose load is above its capacity
-before_pairs : (ls cs : List ℕ) → before_overloaded ls cs ≡ position_or_len (λ p. not (leb p.0 p.1)) (zip ls cs)
+before_pairs : (ls cs : List ℕ) → before_overloaded ls cs ≡ position_or_len (λ p. ltb p.1 p.0) (zip ls cs)
 unfolding before_overloaded
 before_pairs [] cs = refl
 before_pairs (l ∷ ls) [] = refl
-before_pairs (l ∷ ls) (c ∷ cs) = rw (before_pairs ls cs) (kept (leb l c) _)
+before_pairs (l ∷ ls) (c ∷ cs) = rw (before_pairs ls cs, not_leb l c) (kept (leb l c) _)
 
 pub first_exceeds : (ls cs : List ℕ) → length ls ≡ frames_all → length cs ≡ frames_all
-    → position (λ p. not (leb p.0 p.1)) (zip ls cs) ≡ found_below (before_overloaded ls cs) frames_all
+    → position (λ p. ltb p.1 p.0) (zip ls cs) ≡ found_below (before_overloaded ls cs) frames_all
 first_exceeds ls cs e f = rw (before_pairs ls cs, length_pairs ls cs frames_all e f) refl
 
 pub loads_together : (frame : ℕ) (ms : List Message) (fs : List ℕ) → sum_by (λ p. part_in frame (pair p)) (zip ms fs) ≡ frame_load frame (placed_of ms fs)

@@ -8,4 +8,4 @@ mod schedules;
 mod searches;
 
 pub use messages::Message;
-pub use schedules::{Frames, Rejection, Schedule};
+pub use schedules::{FRAMES, Frames, MESSAGES_MOST, Rejection, Schedule};

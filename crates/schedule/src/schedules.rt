@@ -1,5 +1,5 @@
 // A schedule, the loads of its frames, and the check (02 j). Meaning: specs/Messages.antt, specs/Frames.antt. Refusals: 15.
-ghost use Rattle.std.specs.Prelude.{◌≡◌, ◌≤◌, ◌<◌, ◌^◌, leb, length, not, position, sum_by};
+ghost use Rattle.std.specs.Prelude.{◌≡◌, ◌≤◌, ◌<◌, ◌^◌, nat_lt, length, not, position, sum_by};
 ghost use Rattle.std.specs.List.{list_all, zip};
 ghost use Rattle.schedule.specs.Messages.{messages_most, messages_in, empty_schedule, count_after, with_of, is_fit, is_refused};
 ghost use Rattle.schedule.specs.Frames.{placed_of, part_in, frame_load, loads_of, is_below, frames_all, found_below, check_of};
@@ -8,19 +8,20 @@ use crate::messages::Message;
 use words::{CommandWord, Refusal};
 
 // "Up to 64 messages"
-const MESSAGES_MOST: u64 = 64;
+pub const MESSAGES_MOST: u64 = 64;
 
 // "the 64" frames
-const FRAMES: usize = 64;
+pub const FRAMES: usize = 64;
 
 // A number for each frame: its load, its capacity; or for each message: its first frame.
-pub type Frames = [u64; 64];
+pub type Frames = [u64; FRAMES];
 
-// The messages of a schedule: the first `count` of them. Any numbers fit.
+// The messages of a schedule: the first `count` of them. Any numbers fit: more than 64 are counted, so that the check refuses them, and a schedule is copied, so that
+// the messages stand in a table beside their count.
 #[derive(Clone, Copy)]
 pub struct Schedule {
     pub count: u64,
-    pub messages: [Message; 64],
+    pub messages: [Message; MESSAGES_MOST as usize],
 }
 
 // Why the check does not accept: the schedule is refused, or it is rejected for a message or for a frame, counted from 0.
@@ -42,23 +43,14 @@ fn counted(count: u64) -> u64
     count
 }
 
-// Says whether a frame is not loaded above its capacity.
-fn is_within(load: u64, capacity: u64) -> bool
-    ensures answer { result ≡ leb load capacity }
-{
-    load <= capacity
-}
-
 // Gives the first frame that is overloaded, or none.
-fn first_overloaded(loads: &[u64], capacities: &[u64]) -> Option<usize>
-    requires loads_len { length loads.now ≡ frames_all }
-    requires capacities_len { length capacities.now ≡ frames_all }
-    ensures first { result ≡ position (λ p. not (leb p.0 p.1)) (zip loads.now capacities.now) }
+fn first_overloaded(loads: &Frames, capacities: &Frames) -> Option<usize>
+    ensures first { result ≡ position (λ p. nat_lt p.1 p.0) (zip loads.now capacities.now) }
 {
     loads
         .iter()
         .zip(capacities)
-        .position(|(load, capacity)| !is_within(*load, *capacity))
+        .position(|(load, capacity)| *load > *capacity)
 }
 
 // Gives what a message adds to a frame: its load, or nothing.
@@ -79,8 +71,8 @@ fn are_fit(messages: &[Message]) -> bool
     messages.iter().all(|message| message.is_fit())
 }
 
-// Gives the first message that offends, or none. Each has its first frame: there are 64.
-fn first_offending(messages: &[Message], firsts: &[u64]) -> Option<usize>
+// Gives the first message that offends, or none. Each has its first frame: there are 64 of these.
+fn first_offending(messages: &[Message], firsts: &Frames) -> Option<usize>
     ensures first { result ≡ position (λ p. not (is_below (record { message = p.0; start = p.1 }))) (zip messages.now firsts.now) }
 {
     messages
@@ -90,7 +82,7 @@ fn first_offending(messages: &[Message], firsts: &[u64]) -> Option<usize>
 }
 
 // Gives the load of a frame.
-fn frame_load(messages: &[Message], firsts: &[u64], frame: u64) -> u64
+fn frame_load(messages: &[Message], firsts: &Frames, frame: u64) -> u64
     requires fits { sum_by (λ p. part_in frame (record { message = p.0; start = p.1 })) (zip messages.now firsts.now) < 2 ^ 64 }
     ensures ticks { result ≡ sum_by (λ p. part_in frame (record { message = p.0; start = p.1 })) (zip messages.now firsts.now) }
 {
@@ -102,9 +94,8 @@ fn frame_load(messages: &[Message], firsts: &[u64], frame: u64) -> u64
 }
 
 // Fills in the load of each frame.
-pub(crate) fn fill(messages: &[Message], firsts: &[u64], loads: &mut [u64])
+pub(crate) fn fill(messages: &[Message], firsts: &Frames, loads: &mut Frames)
     requires few { length messages.now ≤ messages_most }
-    requires all { length loads.old ≡ frames_all }
     ensures loads { loads.new ≡ loads_of (placed_of messages.now firsts.now) }
 {
     for (frame, load) in loads.iter_mut().enumerate() {
@@ -127,7 +118,7 @@ impl Schedule {
         };
         Schedule {
             count: 0,
-            messages: [none; 64],
+            messages: [none; MESSAGES_MOST as usize],
         }
     }
 

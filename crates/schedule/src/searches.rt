@@ -4,16 +4,13 @@ ghost use Rattle.std.specs.Prelude.{◌≤◌, ◌<◌, length, IfSome};
 ghost use Rattle.schedule.specs.Messages.{messages_most};
 
 use crate::messages::Message;
-use crate::schedules::{Frames, fill};
-
-// the number of frames, and of messages at most
-const PLACES: usize = 64;
+use crate::schedules::{FRAMES, Frames, fill};
 
 // How often a message is placed or moved at most: 64 to place each once, and the rest to move.
 const STEPS_MOST: u64 = 500;
 
-// as a first frame: the message is not placed yet, and comes in no frame
-const NOT_PLACED: u64 = 64;
+// As a first frame: the message is not placed yet, and comes in no frame. It is a number and no Option, since the frames are loaded by the same table.
+const NOT_PLACED: u64 = FRAMES as u64;
 
 // ticks: more than all messages together load a frame with
 const TICKS_MOST: u64 = 1_000_000;
@@ -73,16 +70,16 @@ impl<'a> Search<'a> {
     pub(crate) fn start(messages: &'a [Message], capacities: &'a Frames) -> Search<'a>
         requires few { length messages.now ≤ messages_most }
     {
-        let mut turns = [0; PLACES];
+        let mut turns = [0; FRAMES];
         for (turn, message) in turns.iter_mut().zip(messages) {
             *turn = message.first_turn();
         }
         Search {
             messages,
             capacities,
-            firsts: [NOT_PLACED; PLACES],
+            firsts: [NOT_PLACED; FRAMES],
             turns,
-            loads: [0; PLACES],
+            loads: [0; FRAMES],
         }
     }
 
