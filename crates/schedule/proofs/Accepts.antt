@@ -11,8 +11,7 @@ use Rattle.schedule.specs.Messages.{are_fit, is_refused}
 use Rattle.schedule.specs.Frames.{Placed, placed_of, frame_load, frames_all, check_of}
 use Rattle.schedule.specs.Theorems.{Sound, AcceptedExactly, FirstOffending, FirstOverloaded, FirstNamed, EmptyAccepted, MoreRoom}
 use Rattle.schedule.specs.declared.schedules.Schedule.{Schedule}
-use Rattle.std.specs.Prelude.{Result, Ok, Err}
-use Rattle.schedule.specs.declared.schedules.Rejection.{Rejection}
+use Rattle.std.specs.Prelude.{Ok, Err}
 use Rattle.schedule.specs.declared.schedules.Rejection.TheVariants as rejection
 use Rattle.schedule.proofs.Outcomes.{placed, each, below_before, below_all, offends_at, offending_is, none_offending, fit_before, above_at, overloaded_is, none_overloaded, check_choice, accepts, accepted, named_message, named_frame}
 

@@ -1,11 +1,11 @@
 -- What the chains over messages and frames give, in the words of the definitions. Assumes nothing.
-use mathlib.Core.Path.{◌≡◌, refl, sym, ap, ◌∙◌}
+use mathlib.Core.Path.{◌≡◌, refl, sym}
 use mathlib.Core.Bool.{Bool, true, false, not, cond, ◌&&◌}
 use mathlib.Core.List.{List, [], ◌∷◌, map}
-use Prim.Native.Nat.{ℕ, suc, ◌+◌, ◌*◌, ◌^◌, ◌≤◌, ◌<◌}
+use Prim.Native.Nat.{ℕ, suc, ◌+◌, ◌^◌, ◌≤◌, ◌<◌}
 use native.Mathlib.Omega.{arith}
 use lib.Dec.{ltb, leb}
-use Rattle.std.specs.Prelude.{Option, None, Some, Result, Ok, Err}
+use Rattle.std.specs.Prelude.{None, Some, Ok, Err}
 use mathlib.Core.Logic.{dite}
 use native.Mathlib.Decide.{dec_le}
 use borrow.Author.Tests.{le-leb, le-ltb, lt-leb, lt-ltb}
@@ -13,7 +13,7 @@ use lib.ListN.{length, length-map}
 use Rattle.std.specs.List.{zip, list_all, position, position_or_len, sum_by}
 use Rattle.std.proofs.lemmas.List.Recursion.{same_from_clauses, is_sum_by, is_position_or_len}
 use Rattle.schedule.specs.Messages.{messages_most, messages_in, is_fit, are_fit, is_refused}
-use Rattle.schedule.specs.Frames.{Placed, placed_of, part_in, frame_load, is_below, before_offending, before_overloaded, frames_all, loads_of, found_below, frame_outcome, outcome_of, check_of}
+use Rattle.schedule.specs.Frames.{placed_of, part_in, frame_load, is_below, before_offending, before_overloaded, frames_all, loads_of, found_below, frame_outcome, outcome_of, check_of}
 use Rattle.schedule.specs.declared.messages.Message.{Message}
 use Rattle.schedule.specs.declared.schedules.Schedule.{Schedule}
 use Rattle.schedule.specs.declared.schedules.Rejection.TheVariants as rejection

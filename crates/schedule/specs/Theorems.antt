@@ -1,5 +1,5 @@
 -- What is proved of schedules (02 j). Each is proved in proofs/ under the name at its side. Assumes nothing.
-use Rattle.std.specs.Prelude.{ℕ, ◌+◌, ◌%◌, ◌≤◌, ◌<◌, ◌≡◌, true, false, cond, eqb, length, get_or, Option, None, Some, Result, Ok, Err}
+use Rattle.std.specs.Prelude.{ℕ, ◌+◌, ◌%◌, ◌≤◌, ◌<◌, ◌≡◌, true, false, cond, eqb, length, get_or, Option, None, Some, Ok, Err}
 use mathlib.Core.List.{List, [], ◌∷◌, ◌++◌, map, Perm}
 use Rattle.words.specs.Words.{is_mode}
 use Rattle.words.specs.Modes.{listing_of, is_allowed}
