@@ -169,7 +169,8 @@ impl Sink {
         ensures block { block.new ≡ block_after block.old self.at (word_text word) }
         ensures goes { Goes self result }
     {
-        self.put_text(block, &word_digits(word))
+        let digits = word_digits(word);
+        self.put_text(block, &digits)
     }
 
     // Gives the sink with a text more, and the number behind it, in decimal.

@@ -59,7 +59,8 @@ pub fn spell_word(block: &mut Block, at: usize, word: u16) -> usize
     requires { at + 4 ≤ block_bytes }
     ensures text { Spelled block.old at (word_text word) block.new result }
 {
-    spell_text(block, at, &word_digits(word))
+    let digits = word_digits(word);
+    spell_text(block, at, &digits)
 }
 
 // Gives how many decimal digits a number has, 1 to 20.

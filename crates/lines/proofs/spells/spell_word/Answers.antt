@@ -3,4 +3,4 @@ use Rattle.lines.proofs.Spellings.{spelled_as}
 use Rattle.lines.proofs.spells.spell_word.Goals as goal
 
 pub returns : goal.returns
-returns c = record { text = spelled_as c.word_digits.ensures.digits c.spell_text.ensures.text }
+returns c = record { text = spelled_as c.word_digits-digits.ensures.digits c.spell_text.ensures.text }
