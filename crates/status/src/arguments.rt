@@ -1,48 +1,28 @@
 // Arguments that all tools read alike: what one is, its number as it was typed, whether it is a name (docs/LINES.md). Which arguments there are the system hands out, and no
 // contract can say: what each function gives whichever they are, it promises. Meaning: specs/Arguments.antt. Refusals: none; what is wrong with an argument is said on
 // standard error.
-ghost use Rattle.std.specs.Prelude.{◌≡◌, true, false, ◌⊎◌, ◌<◌, ◌≤◌, length};
+ghost use Rattle.std.specs.Prelude.{◌≡◌, true, false, ◌⊎◌, ◌<◌, ◌≤◌, length, IfOk, IsOkAnd};
 ghost use Rattle.status.specs.Arguments.{wanted_most, is_help, is_option, typed_of};
 
 use lines::{is_same, remark};
 use std::env::{Env, FillError};
 
-// What asking for an argument gave: how many bytes of it stand at the front of the text, 0 where there is none or it does not fit, and whether it is longer than the text.
-#[derive(Clone, Copy)]
-pub struct Asked {
-    pub length: usize,
-    pub long: bool,
-}
+// What asking for an argument gave: how many bytes of it stand at the front of the text, or that there is none or that it is longer than the text. The text stays the
+// caller's, who cuts it: no library takes memory of its own.
+pub type Asked = Result<usize, FillError>;
 
 // Asks for the argument at a place; that at 0 is the program.
 // Tables: text holds it at its front. Refusals: none.
 pub fn ask(rt: HostRuntime, place: usize, text: &mut [u8]) -> Asked
-    ensures length { result.length ≤ length text.new }
+    ensures length { IfOk result (λ count. count ≤ length text.new) }
 {
-    match rt.arg(place, text) {
-        Ok(length) => Asked {
-            length,
-            long: false,
-        },
-        Err(FillError::TooLong) => Asked {
-            length: 0,
-            long: true,
-        },
-        Err(FillError::NotPresent) => Asked {
-            length: 0,
-            long: false,
-        },
-    }
+    rt.arg(place, text)
 }
 
 // Says whether there is an argument at a place.
 fn is_there(rt: HostRuntime, place: usize) -> bool {
     let mut text = [0u8; 1];
-    match rt.arg(place, &mut text) {
-        Ok(_) => true,
-        Err(FillError::TooLong) => true,
-        Err(FillError::NotPresent) => false,
-    }
+    !matches!(rt.arg(place, &mut text), Err(FillError::NotPresent))
 }
 
 // Gives how many arguments there are, the program with them.
@@ -56,13 +36,13 @@ pub fn count_arguments(rt: HostRuntime) -> usize {
     usize::MAX
 }
 
-// Says whether the argument at a place is a text of at most 11 bytes. A longer one gives a length of 0, and is none.
+// Says whether the argument at a place is a text of at most 11 bytes. A longer one is read as none.
 // Tables: wanted is only read. Refusals: none.
 pub fn is_at(rt: HostRuntime, place: usize, wanted: &[u8]) -> bool
     ensures short { result ≡ true → length wanted.now ≤ wanted_most }
 {
     let mut text = [0u8; 11];
-    let length = ask(rt, place, &mut text).length;
+    let length = ask(rt, place, &mut text).unwrap_or(0);
     is_same(&text[..length], wanted)
 }
 
@@ -87,11 +67,11 @@ fn is_help(text: &[u8]) -> bool
     is_same(text, b"--help") | is_same(text, b"-h")
 }
 
-// Says whether the argument at a place asks for help. A longer one gives a length of 0, and does not.
+// Says whether the argument at a place asks for help. A longer one is read as none, and does not.
 // Tables: none. Refusals: none.
 pub fn asks_help(rt: HostRuntime, place: usize) -> bool {
     let mut help = [0u8; 6];
-    let length = ask(rt, place, &mut help).length;
+    let length = ask(rt, place, &mut help).unwrap_or(0);
     is_help(&help[..length])
 }
 
@@ -100,24 +80,23 @@ pub fn asks_help(rt: HostRuntime, place: usize) -> bool {
 pub fn is_option(text: &[u8]) -> bool
     ensures answer { result ≡ is_option text.now }
 {
-    if text.len() < 2 {
-        return false;
-    }
-    text[0] == b'-'
+    text.len() >= 2 && text[0] == b'-'
 }
 
 // Says whether the argument that was asked for is the name of a file. Where it is none, standard error says why.
 // Tables: program and which, the argument's name in the usage, are only read. Refusals: none.
 pub fn is_name(program: &[u8], which: &[u8], asked: Asked) -> bool
-    ensures empty { result ≡ true → 0 < asked.length }
+    ensures empty { result ≡ true → IsOkAnd asked (λ count. 0 < count) }
 {
-    if asked.long {
-        remark(program, which, b" is longer than a name can be: 4095 bytes");
-        return false;
+    match asked {
+        Err(FillError::TooLong) => {
+            remark(program, which, b" is longer than a name can be: 4095 bytes");
+            false
+        }
+        Err(FillError::NotPresent) | Ok(0) => {
+            remark(program, which, b" is empty: it must be the name of a file");
+            false
+        }
+        Ok(_) => true,
     }
-    if asked.length == 0 {
-        remark(program, which, b" is empty: it must be the name of a file");
-        return false;
-    }
-    true
 }

@@ -1,20 +1,18 @@
 // The front of a call: `--status-fd N` and `--version`, before all else (docs/LINES.md, "The status"). What the system hands out and takes no contract can say: what each
 // function gives whatever that is, it promises. Meaning: specs/Fronts.antt. Refusals: none.
-ghost use Rattle.std.specs.Prelude.{◌≡◌, true, false, ◌⊎◌, ◌≤◌, pos, length};
+ghost use Rattle.std.specs.Prelude.{◌≡◌, ℕ, true, false, None, ◌⊎◌, ◌≤◌, length, IfSome};
 ghost use Rattle.status.specs.Fronts.{descriptor_of, is_number, front_of, front_in, usage_of};
 
 use crate::arguments::{ask, is_at};
 use crate::statuses::Status;
-use lines::{Number, Sink, Target, complain, number_of, read_decimal, remark};
+use lines::{Sink, Target, complain, number_of, read_decimal, remark};
 use std::fs::{OpenOptions, metadata, symlink_metadata};
 use std::io::{Print, Write};
 use std::os::unix::fs::{FileTypeExt, MetadataExt};
 
-const STDOUT: i32 = 1;
-
 const STDERR: i32 = 2;
 
-// the system's numbers for what fails, for a descriptor that is not open for that, and for a pipe that nobody reads
+// the system's own numbers, which it gives and gets back for its words, for what fails, for a descriptor that is not open for that, and for a pipe that nobody reads
 const IO_ERROR: i32 = 5;
 
 const BAD_DESCRIPTOR: i32 = 9;
@@ -24,45 +22,24 @@ const BROKEN_PIPE: i32 = 32;
 // that of CHANGELOG.md's first entry
 pub const VERSION: [u8; 6] = *b"0.21.0";
 
-// the largest descriptor that the system could have
-const DESCRIPTOR_MOST: u64 = 2147483647;
-
-// Whether the run's end is to be told and to which descriptor, and the place of the first argument behind that.
+// The descriptor to which the run's end is to be told, if it is, and the place of the first argument behind that.
 #[derive(Clone, Copy)]
 pub struct Front {
-    pub told: bool,
-    pub fd: i32,
+    pub fd: Option<i32>,
     pub first: usize,
 }
 
 // What the front of a call asks: to go on with the arguments behind it, or nothing more, the run having ended so.
-#[derive(Clone, Copy)]
-pub enum Begun {
-    On(Front),
-    Over(Front, Status),
-}
-
-// A number that a descriptor can have, or that a text spells none.
-#[derive(Clone, Copy)]
-enum Descriptor {
-    Is(i32),
-    None,
-}
+pub type Begun = Result<Front, (Front, Status)>;
 
 // Gives the descriptor that a text spells, if it is one of the system's numbers.
-fn descriptor_of(text: &[u8]) -> Descriptor
+fn descriptor_of(text: &[u8]) -> Option<i32>
     ensures descriptor { result ≡ descriptor_of text.now }
 {
-    let Number::Is(number) = read_decimal(text) else {
-        return Descriptor::None;
-    };
-    if number > DESCRIPTOR_MOST {
-        return Descriptor::None;
-    }
-    Descriptor::Is(number as i32)
+    i32::try_from(read_decimal(text)?).ok()
 }
 
-// Gives the path under which the system shows a descriptor, and its length.
+// Gives the path under which the system shows a descriptor, and its length: a text of its own would need the heap.
 fn path_of(fd: i32) -> ([u8; 28], usize)
     ensures within { result.1 ≤ length result.0 }
 {
@@ -77,18 +54,14 @@ fn path_of(fd: i32) -> ([u8; 28], usize)
 // descriptors, each is taken for open.
 fn is_open(rt: HostRuntime, fd: i32) -> bool {
     let (path, length) = path_of(fd);
-    match std::str::from_utf8(&path[..length]) {
-        Ok(text) => symlink_metadata(&rt, text).is_ok() | metadata(&rt, "/dev/fd").is_err(),
-        Err(_) => true,
-    }
+    std::str::from_utf8(&path[..length]).map_or(true, |text| {
+        symlink_metadata(&rt, text).is_ok() | metadata(&rt, "/dev/fd").is_err()
+    })
 }
 
 // Says whether a descriptor is open for writing, as the system shows it: the one who has it may write to it.
 fn is_for_writing(rt: HostRuntime, path: &str) -> bool {
-    match symlink_metadata(&rt, path) {
-        Ok(shown) => shown.mode() & 0o200 != 0,
-        Err(_) => true,
-    }
+    symlink_metadata(&rt, path).map_or(true, |shown| shown.mode() & 0o200 != 0)
 }
 
 // Gives the system's number for why a device takes nothing, by a second try: nothing that a device was sent can be lost by it.
@@ -132,13 +105,9 @@ fn failure_at(rt: HostRuntime, fd: i32, digit: u8) -> i32 {
 impl Front {
     // Gives the front of a call that asks for no digit.
     fn untold() -> Front
-        ensures front { result ≡ front_of false (pos 1) }
+        ensures front { result ≡ front_of None }
     {
-        Front {
-            told: false,
-            fd: STDOUT,
-            first: 1,
-        }
+        Front { fd: None, first: 1 }
     }
 
     // Ends a run: writes the digit, where it is asked for, as the tool's last act.
@@ -146,11 +115,11 @@ impl Front {
     pub fn end(self, rt: HostRuntime, program: &[u8], status: Status)
         ensures program { program.exit.now ≡ program.entry.now }
     {
-        if !self.told {
+        let Some(fd) = self.fd else {
             return;
-        }
-        if !io::write_all(self.fd, &[status.digit()]) {
-            let why = failure_at(rt, self.fd, status.digit());
+        };
+        if !io::write_all(fd, &[status.digit()]) {
+            let why = failure_at(rt, fd, status.digit());
             complain(program, b"--status-fd", why);
         }
     }
@@ -161,7 +130,7 @@ fn refuse(front: Front, program: &[u8], why: &[u8]) -> Begun
     ensures front { front_in result ≡ front }
 {
     remark(program, b"--status-fd", why);
-    Begun::Over(front, Status::Usage)
+    Err((front, Status::Usage))
 }
 
 // Writes "PROGRAM VERSION".
@@ -173,7 +142,7 @@ fn write_version(rt: HostRuntime, program: &[u8]) -> Status {
         .put_text(&mut block, &VERSION)
         .put(&mut block, b'\n')
         .flush_told(&block, program);
-    Status::of(!after.failed)
+    Status::of(after.failure.is_none())
 }
 
 // Writes how a program is called: to standard output where that was asked for, and to standard error where it was called wrongly.
@@ -194,6 +163,19 @@ pub fn show_usage(rt: HostRuntime, program: &[u8], usage: &[u8], asked: bool) ->
     }
 }
 
+// Runs a tool as its call asks: what the front of the call asks for, or the tool from the place of the first argument behind it. Then it says how that ended.
+// Tables: program is only read. Refusals: none.
+pub fn run<T: FnOnce(usize) -> Status>(rt: HostRuntime, program: &[u8], tool: T)
+    requires tool { (first : ℕ) → T.pre tool first }
+    ensures program { program.exit.now ≡ program.entry.now }
+{
+    let (front, status) = match begin(rt, program) {
+        Ok(front) => (front, tool(front.first)),
+        Err(over) => over,
+    };
+    front.end(rt, program, status);
+}
+
 // Gives what is asked behind `--status-fd N`, or where there is none.
 fn begin_behind(rt: HostRuntime, front: Front, program: &[u8]) -> Begun
     ensures front { front_in result ≡ front }
@@ -202,24 +184,24 @@ fn begin_behind(rt: HostRuntime, front: Front, program: &[u8]) -> Begun
         return refuse(front, program, b" is given twice");
     }
     if is_at(rt, front.first, b"--version") {
-        return Begun::Over(front, write_version(rt, program));
+        return Err((front, write_version(rt, program)));
     }
-    Begun::On(front)
+    Ok(front)
 }
 
 // Gives what the front of a call asks. Where it asks for the version, that is written; where it is wrong, standard error says how.
 // Tables: program is only read. Refusals: none.
 pub fn begin(rt: HostRuntime, program: &[u8]) -> Begun
-    ensures front { front_in result ≡ front_of (front_in result).told (front_in result).fd }
-    ensures file { is_number (front_in result).fd ≡ true }
+    ensures front { front_in result ≡ front_of (front_in result).fd }
+    ensures file { IfSome (front_in result).fd (λ fd. is_number fd ≡ true) }
 {
     let untold = Front::untold();
     if !is_at(rt, 1, b"--status-fd") {
         return begin_behind(rt, untold, program);
     }
     let mut text = [0u8; 20];
-    let length = ask(rt, 2, &mut text).length;
-    let Descriptor::Is(fd) = descriptor_of(&text[..length]) else {
+    let length = ask(rt, 2, &mut text).unwrap_or(0);
+    let Some(fd) = descriptor_of(&text[..length]) else {
         return refuse(
             untold,
             program,
@@ -230,8 +212,7 @@ pub fn begin(rt: HostRuntime, program: &[u8]) -> Begun
         return refuse(untold, program, b" names a descriptor that is not open");
     }
     let front = Front {
-        told: true,
-        fd,
+        fd: Some(fd),
         first: 3,
     };
     begin_behind(rt, front, program)

@@ -9,5 +9,5 @@ mod statuses;
 pub use arguments::{
     Asked, ask, asks_help, count_arguments, is_at, is_name, is_option, typed_number,
 };
-pub use fronts::{Begun, Front, VERSION, begin, show_usage};
+pub use fronts::{Begun, Front, VERSION, begin, run, show_usage};
 pub use statuses::Status;

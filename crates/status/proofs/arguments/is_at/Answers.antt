@@ -1,9 +1,17 @@
 -- What is the same as a text of at most 11 bytes has no more. Assumes nothing.
+use mathlib.Core.Path.{sym, subst, ◌∙◌}
 use native.Mathlib.Omega.{arith}
-use Prim.Native.Nat.{ℕ}
-use lib.ListN.{length-take}
-use Rattle.status.proofs.Cases.{wanted_short}
+use Prim.Native.Nat.{ℕ, ◌≤◌}
+use mathlib.Core.List.{List}
+use lib.ListN.{length, length-take}
+use Rattle.lines.proofs.Namings.{same_text_lem}
+use Rattle.status.specs.Arguments.{wanted_most}
 use Rattle.status.proofs.arguments.is_at.Goals as goal
 
 pub returns : goal.returns
-returns c = record { short = λ h. wanted_short _ _ _ c.is_same.ensures.answer (omega (arith, length-take {A = ℕ} c.ask-length.result.length c.ask-length.new.text, c.ask-length.auto.text, c.ask-length.ensures.length)) h }
+returns c =
+    record {
+      short = λ h.
+          subst (λ (t : List ℕ). length t ≤ wanted_most) (same_text_lem _ _ (sym c.is_same.ensures.answer ∙ h))
+          (omega (arith, length-take {A = ℕ} c.unwrap_or-length.result c.ask.new.text, c.ask.auto.text));
+    }
