@@ -7,8 +7,8 @@ use Rattle.words.specs.declared.statuses.Flag.TheVariants.{MessageError, Busy}
 use Rattle.records.specs.declared.forms.WordRecord.{WordRecord}
 use Rattle.verdict.specs.Plans.{plan_refusal, expected_of}
 use Rattle.verdict.specs.Numbers.{good, no_response, separated, last_verdict, number_of, fact_number}
-use Rattle.verdict.specs.Facts.{gap_least, gap_most, listened_least, data_fact, fact_of}
-use Rattle.verdict.specs.Verdicts.{finding_of, verdict_of, looked_of, judged_of, expected_at, finish_of}
+use Rattle.verdict.specs.Facts.{gap_least, gap_most, listened_least, data_fact}
+use Rattle.verdict.specs.Verdicts.{finding_of, verdict_of, looked_of, judged_of, finish_of, found_or_shown}
 use Rattle.verdict.specs.declared.judges.Finding.{Finding}
 use Rattle.verdict.specs.declared.verdicts.Verdict.{Verdict}
 use Rattle.verdict.specs.declared.verdicts.Verdict.TheVariants as verdict
@@ -87,11 +87,6 @@ Longer =
     × ((g.verdict ≡ f.verdict) ⊎ ((f.verdict ≡ verdict.Waiting) × (is_final g.verdict ≡ true)))
 
 -- ---- record by record, as the log of 02 a) asks
-
--- the fact found before some records, or else what the first of them shows at that place, the word before it at that time
-abbrev pub found_or_shown : Option Verdict → Plan → ℕ → ℕ → WordRecord → Option Verdict
-found_or_shown None plan place last r = fact_of (expected_at plan place) last r
-found_or_shown (Some fact) plan place last r = Some fact
 
 -- the fact found after some records, where one was found before them or none was, the first of them at that place, the word before it at that time
 abbrev pub found_after : Plan → Option Verdict → ℕ → ℕ → List WordRecord → Option Verdict

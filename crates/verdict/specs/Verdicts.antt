@@ -128,3 +128,8 @@ sent_first plan = cond (eqb plan.commands 1) (cond (is_broadcast plan.first.0) 0
 unfoldable pub finish_of : Plan → Option Verdict → ℕ → ℕ → Verdict
 finish_of plan None place last = end_of (expected_at plan place) last plan.until.0
 finish_of plan (Some fact) place last = fact
+
+-- the fact found before a record, or else what the record shows at that place, the word before it at that time
+abbrev pub found_or_shown : Option Verdict → Plan → ℕ → ℕ → WordRecord → Option Verdict
+found_or_shown None plan place last r = fact_of (expected_at plan place) last r
+found_or_shown (Some fact) plan place last r = Some fact
