@@ -1,12 +1,13 @@
 -- One record more at the end of an entry: what each part of its definition comes to. Assumes nothing.
-use Rattle.std.proofs.Common.{◌≡◌, ℕ, zero, suc, ◌+◌, ◌<◌, ◌≤◌, Bool, true, false, cond, not, ◌&&◌, ◌||◌, eqb, List, [], ◌∷◌, ◌++◌, length, take, drop, sym, refl, ap, ◌∙◌, true≢false, arith}
+use Rattle.std.proofs.Common.{◌≡◌, ℕ, zero, suc, ◌+◌, ◌<◌, ◌≤◌, Bool, true, false, cond, not, ◌&&◌, ◌||◌, eqb, List, [], ◌∷◌, ◌++◌, length, take, drop, sym, refl, ap, ◌∙◌, arith}
+use Rattle.std.specs.Prelude.{Option, Some}
 use mathlib.Core.Bool.{or-false}
+use Rattle.std.proofs.Math.Bool.{or_assoc}
 use Rattle.words.specs.Words.{is_spaced}
 use Rattle.words.specs.declared.times.Moment.{Moment}
 use Rattle.records.specs.declared.forms.WordRecord.{WordRecord}
-use Rattle.verdict.specs.Numbers.{good}
-use Rattle.verdict.specs.Facts.{fact_of}
-use Rattle.verdict.specs.Verdicts.{expected_at}
+use Rattle.verdict.specs.Verdicts.{found_or_shown}
+use Rattle.verdict.specs.declared.verdicts.Verdict.{Verdict}
 use Rattle.verdict.specs.Theorems.{found_after, last_after}
 use Rattle.verdict.specs.declared.plans.Plan.{Plan}
 use Rattle.monitor.specs.Entries.{is_command, is_data_word, statuses_in, statuses_by, last_in, is_spoiled, has_twins, gap_from, gap_before, data_words}
@@ -15,14 +16,6 @@ use Rattle.monitor.specs.declared.entries.Gap.{Gap}
 
 abbrev pub snoc : List WordRecord → WordRecord → List WordRecord
 snoc rs r = rs ++ (r ∷ [])
-
-or_assoc : (a b c : Bool) → (a || (b || c)) ≡ ((a || b) || c)
-or_assoc true b c = refl
-or_assoc false b c = refl
-
-pub or_no : (a b : Bool) → (a || b) ≡ false → (a ≡ false) × (b ≡ false)
-or_no true b h = absurd (true≢false h)
-or_no false b h = (refl, h)
 
 -- ---- the last record
 
@@ -45,7 +38,7 @@ pub twins_snoc : (first : WordRecord) (rest : List WordRecord) (r : WordRecord)
     → has_twins first (snoc rest r) ≡ (has_twins first rest || eqb r.time.0 (last_in first rest).time.0)
 twins_snoc first [] r = or-false _
 twins_snoc first (x ∷ rest) r = ap (λ (b : Bool). eqb x.time.0 first.time.0 || b) (twins_snoc x rest r)
-    ∙ or_assoc (eqb x.time.0 first.time.0) (has_twins x rest) (eqb r.time.0 (last_in x rest).time.0)
+    ∙ sym (or_assoc (eqb x.time.0 first.time.0) (has_twins x rest) (eqb r.time.0 (last_in x rest).time.0))
 
 pub words_snoc : (rest : List WordRecord) (r : WordRecord) → data_words (snoc rest r) ≡ data_words rest + cond (is_data_word r) 1 0
 words_snoc [] r = omega arith
@@ -64,7 +57,7 @@ spoiled_own zero t rs r l = absurd (omega arith)
 spoiled_own (suc n) t [] r l = ap (λ (b : Bool). is_bad t r || b) (spoiled_none n r.time.0) ∙ or-false _
 spoiled_own (suc n) t (x ∷ rs) r l =
     ap (λ (b : Bool). is_bad t x || b) (spoiled_own n x.time.0 rs r (omega arith))
-    ∙ or_assoc (is_bad t x) (is_spoiled n x.time.0 rs) (is_bad (last_after x.time.0 rs) r)
+    ∙ sym (or_assoc (is_bad t x) (is_spoiled n x.time.0 rs) (is_bad (last_after x.time.0 rs) r))
 
 pub spoiled_returned : (n t : ℕ) (rs : List WordRecord) (r : WordRecord) → n ≤ length rs → is_spoiled n t (snoc rs r) ≡ is_spoiled n t rs
 spoiled_returned zero t rs r l = refl
@@ -92,7 +85,7 @@ by_more [] r = refl
 by_more (x ∷ []) r = refl
 by_more (x ∷ y ∷ rs) r = refl
 
-gap_stays : (x : WordRecord) (rs : List WordRecord) (before : Gap) (last time : Moment) → gap_with (statuses_by (x ∷ rs)) before last time ≡ before
+gap_stays : (x : WordRecord) (rs : List WordRecord) (before : Option Gap) (last time : Moment) → gap_with (statuses_by (x ∷ rs)) before last time ≡ before
 gap_stays x [] before last time = refl
 gap_stays x (y ∷ rs) before last time = refl
 
@@ -102,27 +95,23 @@ gap_more t [] r h last e = rw (h, e)
 gap_more t (x ∷ rs) r h last e = go (is_command x) (gap_more x.time.0 rs r h last e)
   where
     go : (b : Bool) → gap_before x.time.0 (snoc rs r) ≡ gap_with (statuses_by (statuses_in rs)) (gap_before x.time.0 rs) last r.time
-        → cond b (gap_from t x.time.0) (gap_before x.time.0 (snoc rs r))
-        ≡ gap_with (statuses_by (cond b (x ∷ statuses_in rs) (statuses_in rs))) (cond b (gap_from t x.time.0) (gap_before x.time.0 rs)) last r.time
-    go true more = sym (gap_stays x (statuses_in rs) (gap_from t x.time.0) last r.time)
+        → cond b (Some (gap_from t x.time.0)) (gap_before x.time.0 (snoc rs r))
+        ≡ gap_with (statuses_by (cond b (x ∷ statuses_in rs) (statuses_in rs))) (cond b (Some (gap_from t x.time.0)) (gap_before x.time.0 rs)) last r.time
+    go true more = sym (gap_stays x (statuses_in rs) (Some (gap_from t x.time.0)) last r.time)
     go false more = more
 
 pub gap_same : (t : ℕ) (rs : List WordRecord) (r : WordRecord) → is_command r ≡ false → gap_before t (snoc rs r) ≡ gap_before t rs
 gap_same t [] r h = rw (h)
-gap_same t (x ∷ rs) r h = ap (λ (g : Gap). cond (is_command x) (gap_from t x.time.0) g) (gap_same x.time.0 rs r h)
+gap_same t (x ∷ rs) r h = ap (λ (g : Option Gap). cond (is_command x) (Some (gap_from t x.time.0)) g) (gap_same x.time.0 rs r h)
 
 -- ---- the fact found
 
-pub found_snoc : (plan : Plan) (rs : List WordRecord) (r : WordRecord) (found place last : ℕ)
+pub found_snoc : (plan : Plan) (rs : List WordRecord) (r : WordRecord) (found : Option Verdict) (place last : ℕ)
     → found_after plan found place last (snoc rs r)
-    ≡ cond (eqb (found_after plan found place last rs) good) (fact_of (expected_at plan (place + length rs)) (last_after last rs) r) (found_after plan found place last rs)
-found_snoc plan [] r found place last =
-    ap (λ (k : ℕ). cond (eqb found good) (fact_of (expected_at plan k) last r) found) {x = place} {y = place + 0} (omega arith)
+    ≡ found_or_shown (found_after plan found place last rs) plan (place + length rs) (last_after last rs) r
+found_snoc plan [] r found place last = ap (λ (k : ℕ). found_or_shown found plan k last r) {x = place} {y = place + 0} (omega arith)
 found_snoc plan (x ∷ rs) r found place last =
-    let next = cond (eqb found good) (fact_of (expected_at plan place) last x) found in
+    let next = found_or_shown found plan place last x in
     found_snoc plan rs r next (suc place) x.time.0
-    ∙ ap
-    (λ (k : ℕ).
-    cond (eqb (found_after plan next (suc place) x.time.0 rs) good) (fact_of (expected_at plan k) (last_after x.time.0 rs) r)
-    (found_after plan next (suc place) x.time.0 rs))
+    ∙ ap (λ (k : ℕ). found_or_shown (found_after plan next (suc place) x.time.0 rs) plan k (last_after x.time.0 rs) r)
     {x = suc place + length rs} {y = place + suc (length rs)} (omega arith)

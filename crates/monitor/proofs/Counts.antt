@@ -1,10 +1,11 @@
 -- Every record is in exactly one entry. Assumes nothing.
 use Rattle.std.proofs.Common.{◌≡◌, ℕ, zero, suc, ◌+◌, ◌≤◌, Bool, true, false, cond, eqb, ltb, List, [], ◌∷◌, ◌++◌, length, drop, sym, refl, ap, ◌∙◌, true≢false, append_assoc, arith, length-append}
+use Rattle.std.specs.Prelude.{Result, Ok, Err}
 use Rattle.words.specs.declared.times.Moment.{Moment}
 use Rattle.records.specs.Records.{last_bus}
 use Rattle.records.specs.Files.{open_of}
-use Rattle.records.specs.declared.files.Opened.{Opened}
-use Rattle.records.specs.declared.files.Opened.TheVariants as opened
+use Rattle.words.specs.declared.refusals.Refusal.{Refusal}
+use Rattle.records.specs.declared.files.Cursor.{Cursor}
 use Rattle.records.specs.declared.forms.WordRecord.{WordRecord}
 use Rattle.records.proofs.Ranges.{in_range_bus}
 use Rattle.monitor.specs.Entries.{is_command, part_of, message_of, entry_of}
@@ -144,10 +145,10 @@ count_log rs two =
     ∙ ap (λ (n : ℕ). length (heard_on 0 0 rs) + n) (count_of end (heard_on 1 0 rs))
     ∙ heard_all 0 0 rs two
 
-count_at : (o : Opened) (file : List ℕ) → count_in (log_at o file).entries ≡ (log_at o file).records
+count_at : (o : Result Cursor Refusal) (file : List ℕ) → count_in (log_at o file).entries ≡ (log_at o file).records
 unfolding front_of
-count_at (opened.Refused n) file = refl
-count_at (opened.At c) file =
+count_at (Err n) file = refl
+count_at (Ok c) file =
     let bytes = drop c.at file in
     count_log (front_of bytes).taken (front_each (λ (r : WordRecord). r.bus ≤ last_bus) (λ r range. in_range_bus last_bus r range) (length bytes) 0 bytes)
 

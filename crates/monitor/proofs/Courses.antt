@@ -1,15 +1,14 @@
 -- Any course of calls gives the log of the file. Assumes nothing.
 use Rattle.std.proofs.Common.{◌≡◌, ℕ, ◌+◌, ◌^◌, ◌<◌, Bool, true, false, cond, ltb, ◌⊎◌, List, [], ◌∷◌, length, get_or, sym, refl, ap, ◌∙◌, subst, inl, inr, ⊎_elim, arith}
+use Rattle.std.specs.Prelude.{Option, Some, None}
 use Rattle.records.specs.Records.{last_bus}
 use Rattle.records.specs.Files.{open_of}
 use Rattle.records.specs.declared.forms.WordRecord.{WordRecord}
 use Rattle.records.proofs.Ranges.{in_range_time}
 use Rattle.monitor.specs.Logs.{entries_on, merged, log_of, front_of, file_log}
 use Rattle.monitor.specs.Machine.{side_start, ready_with, ready_of, is_feed, given_of, wants_more, choice_alone, choice_against, choice_of}
-use Rattle.monitor.specs.Theorems.{Course, over, feed_first, end_first, give_first, feed_second, end_second, give_second, LogOfTheFile}
+use Rattle.monitor.specs.Theorems.{stop_of, Course, over, feed_first, end_first, give_first, feed_second, end_second, give_second, LogOfTheFile}
 use Rattle.monitor.specs.declared.entries.Logged.{Logged}
-use Rattle.monitor.specs.declared.walks.Found.{Found}
-use Rattle.monitor.specs.declared.walks.Found.TheVariants as found
 use Rattle.monitor.specs.declared.walks.Stop.{Stop}
 use Rattle.monitor.specs.declared.walks.Stop.TheVariants as stop
 use Rattle.monitor.specs.declared.walks.Side.{Side}
@@ -57,19 +56,20 @@ second_wants x y second_feeds_alone = refl
 
 -- ---- the entries in order
 
-found_place : (s : Side) (e : Logged) → s.found ≡ found.Entry e → ready_of s ≡ ready.Give e.place
+found_place : (s : Side) (e : Logged) → s.found ≡ Some e → ready_of s ≡ ready.Give e.place
 unfolding ready_of
-found_place s e h = ap (λ (f : Found). ready_with f s.stop) h
+found_place s e h = ap (λ (f : Option Logged). ready_with f s.stop) h
 
 -- a side that has an entry to give is to tell it first
 gives : (s : Side) (us : List ℕ) (p : ℕ) → ready_of s ≡ ready.Give p → (e : Logged) × (rest : List Logged) × (e.place ≡ p) × ((told s us).entries ≡ e ∷ rest)
 unfolding ready_of
 gives s us p h = go s.found s.stop refl h
   where
-    go : (f : Found) (x : Stop) → s.found ≡ f → ready_with f x ≡ ready.Give p → (e : Logged) × (rest : List Logged) × (e.place ≡ p) × ((told s us).entries ≡ e ∷ rest)
-    go (found.Entry e) x q h = (e, (told (given_of s) us).entries, cc, ap (λ (t : Told). t.entries) (told_given s us e q))
-    go found.Nothing stop.Reading q h = let z : ◌≡◌ {A = ℕ} 0 1 = cc in absurd (omega arith)
-    go found.Nothing (stop.Ended n) q h = let z : ◌≡◌ {A = ℕ} 0 1 = cc in absurd (omega arith)
+    go : (f : Option Logged) (x : Stop) → s.found ≡ f → ready_with f x ≡ ready.Give p → (e : Logged) × (rest : List Logged) × (e.place ≡ p) × ((told s us).entries ≡ e ∷ rest)
+    go (Some e) x q h = (e, (told (given_of s) us).entries, cc, ap (λ (t : Told). t.entries) (told_given s us e q))
+    go None stop.Reading q h = absurd (cc)
+    go None stop.Ended q h = absurd (cc)
+    go None (stop.Refused n) q h = absurd (cc)
 
 merged_first : (e : Logged) (es fs : List Logged) → ((f : Logged) (rest : List Logged) → fs ≡ f ∷ rest → ltb e.place f.place ≡ true) → merged (e ∷ es) fs ≡ e ∷ merged es fs
 unfolding merged
@@ -96,7 +96,7 @@ both_ends x y both_over = (refl, refl)
 -- ---- any course
 
 abbrev Ends : Side → Told → Type 0
-Ends s t = (s.stop ≡ stop.Ended (record { 0 = t.refusal })) × (s.walk.records ≡ t.records)
+Ends s t = (s.stop ≡ stop_of t.refusal) × (s.walk.records ≡ t.records)
 
 -- what a course comes to, from what the sides are to tell
 abbrev Says : List Logged → Side → Side → Told → Told → Type 0
@@ -121,7 +121,7 @@ unfolding wants_more
 wants_second a b h = second_wants (ready_of a) (ready_of b) (subst (Chosen (ready_of a) (ready_of b)) h (chosen (ready_of a) (ready_of b)))
 
 -- what the first gives comes before all that the second is to tell, and the other way round
-given_first : (a b : Side) (us vs : List ℕ) (e : Logged) → choice_of (ready_of a) (ready_of b) ≡ GiveFirst → a.found ≡ found.Entry e
+given_first : (a b : Side) (us vs : List ℕ) (e : Logged) → choice_of (ready_of a) (ready_of b) ≡ GiveFirst → a.found ≡ Some e
     → merged (told a us).entries (told b vs).entries ≡ e ∷ merged (told (given_of a) us).entries (told b vs).entries
 given_first a b us vs e h q =
     ap (λ (t : Told). merged t.entries (told b vs).entries) (told_given a us e q)
@@ -132,7 +132,7 @@ given_first a b us vs e h q =
     (λ later. subst (λ (k : ℕ). ltb e.place k ≡ true) (sym (same_place b vs f rest later.0 later.1 m)) later.2)
     (first_less (ready_of a) (ready_of b) (subst (Chosen (ready_of a) (ready_of b)) h (chosen (ready_of a) (ready_of b))) e.place (found_place a e q)))
 
-given_second : (a b : Side) (us vs : List ℕ) (e : Logged) → choice_of (ready_of a) (ready_of b) ≡ GiveSecond → b.found ≡ found.Entry e
+given_second : (a b : Side) (us vs : List ℕ) (e : Logged) → choice_of (ready_of a) (ready_of b) ≡ GiveSecond → b.found ≡ Some e
     → merged (told a us).entries (told b vs).entries ≡ e ∷ merged (told a us).entries (told (given_of b) vs).entries
 given_second a b us vs e h q =
     ap (λ (t : Told). merged (told a us).entries t.entries) (told_given b vs e q)

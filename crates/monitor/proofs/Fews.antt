@@ -1,5 +1,6 @@
 -- A second command is never a status that is expected, and an entry has at most two statuses. Assumes nothing.
 use Rattle.std.proofs.Common.{◌≡◌, ℕ, ◌≤◌, Bool, true, false, cond, not, ◌&&◌, ◌||◌, eqb, ◌⊎◌, List, [], ◌∷◌, length, sym, refl, ◌∙◌, inl, inr, true≢false, arith, ne_eqb, eqb-true}
+use Rattle.std.proofs.lemmas.Bool.{or_parts, or_cases}
 use borrow.Author.Tests.{eqb-false, not-true}
 use Rattle.words.specs.Words.{is_spaced, address_of, count_of, is_transmit, is_mode, is_broadcast}
 use Rattle.words.specs.declared.times.Moment.{Moment}
@@ -13,7 +14,7 @@ use Rattle.monitor.specs.declared.entries.Commands.{Commands}
 use Rattle.monitor.specs.declared.entries.Commands.TheVariants as commands
 use Rattle.monitor.specs.declared.openings.Part.{Part}
 use Rattle.monitor.specs.declared.openings.Part.TheVariants.{Far, Starts, Second, Status, Other}
-use Rattle.monitor.proofs.Appends.{or_no, snoc, statuses_more, statuses_same}
+use Rattle.monitor.proofs.Appends.{snoc, statuses_more, statuses_same}
 use Rattle.monitor.proofs.Summaries.{stays}
 use Rattle.monitor.proofs.Groups.{Known, second, status, other, known, second_first, not_second}
 
@@ -28,7 +29,7 @@ other_address first r h =
     let pair = (and_both (is_command r && is_spaced first.time.0 r.time.0) (is_pair first.word r.word) h).1 in
     let five = (and_both (four && other) (eqb (count_of r.word) (count_of first.word)) pair).0 in
     let differ = (and_both four other five).1 in
-    (or_no (eqb (address_of r.word) (address_of first.word)) (is_broadcast r.word) (not-true _ differ)).0
+    (or_parts (eqb (address_of r.word) (address_of first.word)) (is_broadcast r.word) (not-true _ differ)).0
 
 and_no : (a b c : Bool) → b ≡ false → (a && b && c) ≡ false
 and_no true b c h = rw (h)
@@ -56,10 +57,6 @@ few_length cs l none = omega arith
 few_length cs l (one x h) = omega arith
 few_length cs l (two x y h k d) = omega arith
 
-either : (a b : Bool) → (a || b) ≡ true → (a ≡ true) ⊎ (b ≡ true)
-either true b h = inl refl
-either false b h = inr h
-
 pigeon : (c d x y r : ℕ) → (x ≡ c) ⊎ (x ≡ d) → (y ≡ c) ⊎ (y ≡ d) → (r ≡ c) ⊎ (r ≡ d) → (x ≡ y → ⊥) → (x ≡ r → ⊥) → (y ≡ r → ⊥) → ⊥
 pigeon c d x y r (inl a) (inl b) e xy xr yr = xy (a ∙ sym b)
 pigeon c d x y r (inr a) (inr b) e xy xr yr = xy (a ∙ sym b)
@@ -79,7 +76,7 @@ second_of (commands.Two a b) = address_of b.0
 for_either : (cs : Commands) (k : ℕ) → is_for cs k ≡ true → (k ≡ first_of cs) ⊎ (k ≡ second_of cs)
 unfolding is_for
 for_either (commands.One a) k h = inl (sym (eqb-true (address_of a.0) k h))
-for_either (commands.Two a b) k h = go (either (eqb (address_of a.0) k) (eqb (address_of b.0) k) h)
+for_either (commands.Two a b) k h = go (or_cases (eqb (address_of a.0) k) (eqb (address_of b.0) k) h)
   where
     go : (eqb (address_of a.0) k ≡ true) ⊎ (eqb (address_of b.0) k ≡ true) → (k ≡ address_of a.0) ⊎ (k ≡ address_of b.0)
     go (inl e) = inl (sym (eqb-true (address_of a.0) k e))
@@ -91,7 +88,7 @@ unfolding is_from
 few_more cs l r none h new = one r h
 few_more cs l r (one x k) h new = two x r k h (eqb-false (address_of x.word) (address_of r.word) new)
 few_more cs l r (two x y k m d) h new =
-    let parts = or_no (eqb (address_of x.word) (address_of r.word)) (eqb (address_of y.word) (address_of r.word)) new in
+    let parts = or_parts (eqb (address_of x.word) (address_of r.word)) (eqb (address_of y.word) (address_of r.word)) new in
     absurd
     (pigeon (first_of cs) (second_of cs) (address_of x.word) (address_of y.word) (address_of r.word) (for_either cs _ k) (for_either cs _ m) (for_either cs _ h) d
     (eqb-false (address_of x.word) (address_of r.word) parts.0) (eqb-false (address_of y.word) (address_of r.word) parts.1))

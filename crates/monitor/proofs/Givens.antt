@@ -1,16 +1,16 @@
 -- Each call that is asked for lessens what is left to do, so that the calls come to an end: goes_on_lem, comes_to_over, log_is_given. Assumes nothing.
 use Rattle.std.proofs.Common.{◌≡◌, ℕ, zero, suc, ◌+◌, ◌<◌, ◌≤◌, Bool, true, false, cond, not, ◌&&◌, ltb, List, [], ◌∷◌, ◌++◌, length, drop, sym, refl, ap, ◌∙◌, subst, append-nil, arith, length-append, length-drop, ltb-false, ltb-true}
+use Rattle.std.specs.Prelude.{Option, Some, None, Result}
 use borrow.Author.Tests.{lt-leb}
 use Rattle.words.specs.declared.refusals.Refusal.{Refusal}
+use Rattle.words.specs.declared.refusals.Refusal.TheVariants.{ShortRecord}
+use Rattle.records.specs.declared.forms.WordRecord.{WordRecord}
 use Rattle.records.specs.Records.{last_bus}
-use Rattle.records.specs.declared.forms.Read.{Read}
 use Rattle.records.proofs.Cases.{short}
 use Rattle.monitor.specs.Machine.{side_start, ready_with, ready_of, is_feed, wants_more, stopped_by, read_with, read_by, fed_from, fed_of, ended_with, ended_by, given_of, choice_of}
-use Rattle.monitor.specs.Theorems.{Course, over, feed_first, end_first, give_first, feed_second, end_second, give_second, left_with, left_of, Feeds, Gives, GoesOn, Finishes, finished, feeds_first, feeds_second, gives_first, gives_second, ComesToOver, LogIsGiven}
+use Rattle.monitor.specs.Theorems.{stop_of, Course, over, feed_first, end_first, give_first, feed_second, end_second, give_second, left_with, left_of, Feeds, Gives, GoesOn, Finishes, finished, feeds_first, feeds_second, gives_first, gives_second, ComesToOver, LogIsGiven}
 use Rattle.monitor.specs.declared.entries.Logged.{Logged}
 use Rattle.monitor.specs.declared.walks.Walk.{Walk}
-use Rattle.monitor.specs.declared.walks.Found.{Found}
-use Rattle.monitor.specs.declared.walks.Found.TheVariants as found
 use Rattle.monitor.specs.declared.walks.Stop.{Stop}
 use Rattle.monitor.specs.declared.walks.Stop.TheVariants as stop
 use Rattle.monitor.specs.declared.walks.Side.{Side}
@@ -24,16 +24,19 @@ use Rattle.monitor.proofs.Courses.{wants_first, wants_second, Chosen, first_give
 
 -- ---- what a side has left to do
 
-left_most : (x : Stop) (f : Found) (bytes : ℕ) → left_with x f bytes ≤ bytes + 3
-left_most stop.Reading found.Nothing bytes = omega arith
-left_most stop.Reading (found.Entry e) bytes = omega arith
-left_most (stop.Ended n) found.Nothing bytes = omega arith
-left_most (stop.Ended n) (found.Entry e) bytes = omega arith
+left_most : (x : Stop) (f : Option Logged) (bytes : ℕ) → left_with x f bytes ≤ bytes + 3
+left_most stop.Reading None bytes = omega arith
+left_most stop.Reading (Some e) bytes = omega arith
+left_most stop.Ended None bytes = omega arith
+left_most stop.Ended (Some e) bytes = omega arith
+left_most (stop.Refused n) None bytes = omega arith
+left_most (stop.Refused n) (Some e) bytes = omega arith
 
-wanting : (f : Found) (x : Stop) (bytes : ℕ) → is_feed (ready_with f x) ≡ true → left_with x f bytes ≡ bytes + 2
-wanting found.Nothing stop.Reading bytes h = refl
-wanting found.Nothing (stop.Ended n) bytes h = let z : ◌≡◌ {A = ℕ} 0 1 = cc in absurd (omega arith)
-wanting (found.Entry e) x bytes h = let z : ◌≡◌ {A = ℕ} 0 1 = cc in absurd (omega arith)
+wanting : (f : Option Logged) (x : Stop) (bytes : ℕ) → is_feed (ready_with f x) ≡ true → left_with x f bytes ≡ bytes + 2
+wanting None stop.Reading bytes h = refl
+wanting None stop.Ended bytes h = absurd (cc)
+wanting None (stop.Refused n) bytes h = absurd (cc)
+wanting (Some e) x bytes h = absurd (cc)
 
 left_wants : (s : Side) (us : List ℕ) → wants_more s ≡ true → left_of s us ≡ length us + 2
 unfolding wants_more ready_of
@@ -69,22 +72,24 @@ less_fed s us chunk rest h parts l =
 
 -- ---- the end
 
-ended_stop : (w : Walk) (us : List ℕ) → length us < 16 → (n : Refusal) × ((ended_with w us).stop ≡ stop.Ended n)
+ended_stop : (w : Walk) (us : List ℕ) → length us < 16 → (n : Option Refusal) × ((ended_with w us).stop ≡ stop_of n)
 unfolding stopped_by read_by
-ended_stop w [] l = (record { 0 = 0 }, refl)
-ended_stop w (u ∷ us) l = (record { 0 = 3 }, ap (λ (g : Read). (read_with w g).stop) (sym (short last_bus (u ∷ us) l)))
+ended_stop w [] l = (None, refl)
+ended_stop w (u ∷ us) l = (Some ShortRecord, ap (λ (g : Result WordRecord Refusal). (read_with w g).stop) (sym (short last_bus (u ∷ us) l)))
 
-left_ended : (x : Stop) (f : Found) (bytes : ℕ) (n : Refusal) → x ≡ stop.Ended n → left_with x f bytes ≤ 1
-left_ended (stop.Ended m) found.Nothing bytes n h = omega arith
-left_ended (stop.Ended m) (found.Entry e) bytes n h = omega arith
-left_ended stop.Reading f bytes n h = let z : ◌≡◌ {A = ℕ} 0 1 = cc in absurd (omega arith)
+left_ended : (n : Option Refusal) (f : Option Logged) (bytes : ℕ) → left_with (stop_of n) f bytes ≤ 1
+left_ended None None bytes = omega arith
+left_ended None (Some e) bytes = omega arith
+left_ended (Some n) None bytes = omega arith
+left_ended (Some n) (Some e) bytes = omega arith
 
 less_ended : (s : Side) (us : List ℕ) → wants_more s ≡ true → length us < 16 → left_of (ended_by s us) [] < left_of s us
 unfolding ended_by
 less_ended s us h l =
     let next = ended_with s.walk us in
     let ends = ended_stop s.walk us l in
-    rw (lt-leb 16 (length us) l, h) (omega (arith, left_ended next.stop next.found 0 ends.0 ends.1, left_wants s us h))
+    rw (lt-leb 16 (length us) l, h)
+    (omega (arith, ap (λ (x : Stop). left_with x next.found 0) ends.1, left_ended ends.0 next.found 0, left_wants s us h))
 
 feeds : (s : Side) (us : List ℕ) → wants_more s ≡ true → Feeds s us
 unfolding fed_of
@@ -96,18 +101,20 @@ feeds s us h = record {
 
 -- ---- an entry
 
-less_given : (s : Side) (us : List ℕ) (e : Logged) → s.found ≡ found.Entry e → left_of (given_of s) us < left_of s us
+less_given : (s : Side) (us : List ℕ) (e : Logged) → s.found ≡ Some e → left_of (given_of s) us < left_of s us
 unfolding given_of
-less_given s us e h = subst (λ (f : Found). left_with s.stop found.Nothing (length us) < left_with s.stop f (length us)) (sym h) (go s.stop)
+less_given s us e h = subst (λ (f : Option Logged). left_with s.stop None (length us) < left_with s.stop f (length us)) (sym h) (go s.stop)
   where
-    go : (x : Stop) → left_with x found.Nothing (length us) < left_with x (found.Entry e) (length us)
+    go : (x : Stop) → left_with x None (length us) < left_with x (Some e) (length us)
     go stop.Reading = omega arith
-    go (stop.Ended n) = omega arith
+    go stop.Ended = omega arith
+    go (stop.Refused n) = omega arith
 
-found_with_lem : (f : Found) (x : Stop) (p : ℕ) → ready_with f x ≡ ready.Give p → (e : Logged) × (f ≡ found.Entry e)
-found_with_lem (found.Entry e) x p h = (e, refl)
-found_with_lem found.Nothing stop.Reading p h = let z : ◌≡◌ {A = ℕ} 0 1 = cc in absurd (omega arith)
-found_with_lem found.Nothing (stop.Ended n) p h = let z : ◌≡◌ {A = ℕ} 0 1 = cc in absurd (omega arith)
+found_with_lem : (f : Option Logged) (x : Stop) (p : ℕ) → ready_with f x ≡ ready.Give p → (e : Logged) × (f ≡ Some e)
+found_with_lem (Some e) x p h = (e, refl)
+found_with_lem None stop.Reading p h = absurd (cc)
+found_with_lem None stop.Ended p h = absurd (cc)
+found_with_lem None (stop.Refused n) p h = absurd (cc)
 
 gives : (s : Side) (us : List ℕ) (p : ℕ) → ready_of s ≡ ready.Give p → Gives s us
 unfolding ready_of

@@ -1,12 +1,13 @@
 -- One bus's walk over records gives the entries of its groups. Assumes nothing.
 use Rattle.std.proofs.Common.{◌≡◌, ℕ, suc, ◌+◌, ◌^◌, ◌<◌, ◌≤◌, Bool, true, false, cond, not, ◌&&◌, eqb, List, [], ◌∷◌, ◌++◌, length, sym, refl, ap, ◌∙◌, true≢false, arith, length-append, ltb-true, ne_eqb}
+use Rattle.std.specs.Prelude.{Option, Some, None}
 use Rattle.words.specs.Words.{since_of}
 use Rattle.words.specs.declared.times.Moment.{Moment}
 use Rattle.words.proofs.Sums.{plus_fits}
 use Rattle.records.specs.declared.forms.WordRecord.{WordRecord}
 use Rattle.monitor.specs.Entries.{is_command, is_second, last_in, is_far, expects, part_of, message_of, entry_of}
 use Rattle.monitor.specs.Logs.{heard_on, part_in, belongs, closes_at, groups_from, groups_of, end_time, entries_of, entries_on}
-use Rattle.monitor.specs.Machine.{next64, walk_start, standing_from, found_where, found_at, begun_with, passed_with, joined_by, heard_as, heard_message, heard_where, heard_by}
+use Rattle.monitor.specs.Machine.{next64, opened_by, walk_start, standing_from, found_where, found_at, begun_with, passed_with, joined_by, heard_as, heard_message, heard_where, heard_by}
 use Rattle.monitor.specs.Theorems.{Each}
 use Rattle.monitor.specs.declared.entries.Logged.{Logged}
 use Rattle.monitor.specs.declared.entries.Message.{Message}
@@ -17,17 +18,15 @@ use Rattle.monitor.specs.declared.openings.Part.TheVariants.{Far, Starts, Second
 use Rattle.monitor.specs.declared.walks.Standing.{Standing}
 use Rattle.monitor.specs.declared.walks.Standing.TheVariants as standing
 use Rattle.monitor.specs.declared.walks.Walk.{Walk}
-use Rattle.monitor.specs.declared.walks.Found.{Found}
-use Rattle.monitor.specs.declared.walks.Found.TheVariants as found
 use Rattle.monitor.specs.declared.walks.Stop.TheVariants as stop
 use Rattle.monitor.specs.declared.walks.Side.{Side}
 use Rattle.monitor.proofs.Appends.{snoc}
 use Rattle.monitor.proofs.Summaries.{opening_of, opened, next_fits, stays, joined_status, joined_other, joined_second, same_part, same_message}
 
 -- the entry that was found
-abbrev pub given : Found → List Logged
-given found.Nothing = []
-given (found.Entry e) = e ∷ []
+abbrev pub given : Option Logged → List Logged
+given None = []
+given (Some e) = e ∷ []
 
 -- a record of either bus, and all of them up to the end
 abbrev pub step_by : Walk → WordRecord → Side
@@ -99,39 +98,49 @@ not_second first rest r h = rw (h) (go (eqb (length rest) 0))
 
 -- ---- what stands open for a group
 
-abbrev pub standing_of : WordRecord → List WordRecord → Standing
-standing_of first rest = cond (is_command first) (standing.Message (opening_of first rest)) (standing.Single first)
+abbrev pub in_message : Opening → Option Standing
+in_message o = Some (standing.Message o)
 
-begins : (r : WordRecord) → standing_from r ≡ standing_of r []
+abbrev pub single : WordRecord → Option Standing
+single r = Some (standing.Single r)
+
+abbrev pub standing_of : WordRecord → List WordRecord → Option Standing
+standing_of first rest = cond (is_command first) (in_message (opening_of first rest)) (single first)
+
+begins : (r : WordRecord) → Some (standing_from r) ≡ standing_of r []
 unfolding standing_from
-begins r = ap (λ (o : Opening). cond (is_command r) (standing.Message o) (standing.Single r)) (opened r)
+begins r = go (is_command r) ∙ ap (λ (o : Opening). cond (is_command r) (in_message o) (single r)) (opened r)
+  where
+    go : (b : Bool) → Some (cond b (standing.Message (opened_by r)) (standing.Single r)) ≡ cond b (in_message (opened_by r)) (single r)
+    go true = refl
+    go false = refl
 
 closes : (first : WordRecord) (rest : List WordRecord) (place : ℕ) (until : Moment)
-    → found_where (standing_of first rest) place until ≡ found.Entry (record { place = place; entry = entry_of first rest until })
+    → found_where (standing_of first rest) place until ≡ Some (record { place = place; entry = entry_of first rest until })
 unfolding entry_of
 closes first rest place until = go (is_command first)
   where
     go : (b : Bool)
-        → found_where (cond b (standing.Message (opening_of first rest)) (standing.Single first)) place until
-        ≡ found.Entry (record { place = place; entry = cond b (entry.Message (message_of first rest until)) (entry.Single first) })
-    go true = ap (λ (m : Message). found.Entry (record { place = place; entry = entry.Message m })) (same_message first rest until)
+        → found_where (cond b (in_message (opening_of first rest)) (single first)) place until
+        ≡ Some (record { place = place; entry = cond b (entry.Message (message_of first rest until)) (entry.Single first) })
+    go true = ap (λ (m : Message). Some (record { place = place; entry = entry.Message m })) (same_message first rest until)
     go false = refl
 
 -- the walk with a group open
-abbrev pub walk_at : ℕ → ℕ → Moment → ℕ → Standing → Walk
+abbrev pub walk_at : ℕ → ℕ → Moment → ℕ → Option Standing → Walk
 walk_at bus records clock place s = record { bus = bus; records = records; clock = clock; place = place; standing = s }
 
 -- ---- a record of its bus
 
 module _ (bus records : ℕ) (clock : Moment) (place : ℕ) (first : WordRecord) (rest : List WordRecord) (r : WordRecord) where
-  abbrev walk : Standing → Walk
+  abbrev walk : Option Standing → Walk
   walk s = walk_at bus records clock place s
 
   -- it begins the next entry
   abbrev next : Moment → Side
   next until = record {
     walk = walk_at bus (next64 records) r.time records (standing_of r []);
-    found = found.Entry (record { place = place; entry = entry_of first rest until });
+    found = Some (record { place = place; entry = entry_of first rest until });
     stop = stop.Reading;
   }
 
@@ -144,25 +153,25 @@ module _ (bus records : ℕ) (clock : Moment) (place : ℕ) (first : WordRecord)
   begun until = rw (begins r, closes first rest place until)
 
   module _ (h : is_command first ≡ true) (fits : r.time.0 < 2 ^ 64) (few : length (first ∷ rest) + 1 < 2 ^ 64) where
-    opening : standing_of first rest ≡ standing.Message (opening_of first rest)
+    opening : standing_of first rest ≡ in_message (opening_of first rest)
     opening = rw (h)
 
-    opening_more : standing.Message (opening_of first (snoc rest r)) ≡ standing_of first (snoc rest r)
+    opening_more : in_message (opening_of first (snoc rest r)) ≡ standing_of first (snoc rest r)
     opening_more = rw (h)
 
-    begun_open : (until : Moment) → begun_with (walk (standing.Message (opening_of first rest))) until r ≡ next until
-    begun_open until = ap (λ (s : Standing). begun_with (walk s) until r) (sym opening) ∙ begun until
+    begun_open : (until : Moment) → begun_with (walk (in_message (opening_of first rest))) until r ≡ next until
+    begun_open until = ap (λ (s : Option Standing). begun_with (walk s) until r) (sym opening) ∙ begun until
 
     joins : (part : Part) → joined_by (opening_of first rest) part r ≡ opening_of first (snoc rest r)
-        → passed_with (walk (standing.Message (opening_of first rest))) (standing.Message (joined_by (opening_of first rest) part r)) r ≡ stays_open
+        → passed_with (walk (in_message (opening_of first rest))) (in_message (joined_by (opening_of first rest) part r)) r ≡ stays_open
     unfolding passed_with
-    joins part e = ap (λ (o : Opening). passed_with (walk (standing.Message (opening_of first rest))) (standing.Message o) r) e ∙ ap (λ (s : Standing). passed_with (walk (standing_of first rest)) s r) opening_more
+    joins part e = ap (λ (o : Opening). passed_with (walk (in_message (opening_of first rest))) (in_message o) r) e ∙ ap (λ (s : Option Standing). passed_with (walk (standing_of first rest)) s r) opening_more
 
     heard_known : (q : Part) → Known first rest r q
-        → heard_as q (walk (standing.Message (opening_of first rest))) (opening_of first rest) r ≡ cond (belongs q) stays_open (next (closes_at first rest r))
+        → heard_as q (walk (in_message (opening_of first rest))) (opening_of first rest) r ≡ cond (belongs q) stays_open (next (closes_at first rest r))
     unfolding closes_at
     heard_known Far (far f) =
-        ap (λ (k : ℕ). begun_with (walk (standing.Message (opening_of first rest))) (record { 0 = k }) r)
+        ap (λ (k : ℕ). begun_with (walk (in_message (opening_of first rest))) (record { 0 = k }) r)
         (plus_fits (last_in first rest).time.0 320 (omega (arith, far_later first rest r f)))
         ∙ begun_open (record { 0 = (last_in first rest).time.0 + 320 })
         ∙ rw (f)
@@ -174,16 +183,16 @@ module _ (bus records : ℕ) (clock : Moment) (place : ℕ) (first : WordRecord)
     heard_open : heard_by (walk (standing_of first rest)) r ≡ cond (belongs (part_in first rest r)) stays_open (next (closes_at first rest r))
     unfolding heard_by heard_message part_in
     heard_open =
-        ap (λ (s : Standing). heard_where s (walk s) r) opening
-        ∙ ap (λ (q : Part). heard_as q (walk (standing.Message (opening_of first rest))) (opening_of first rest) r) (same_part first rest r)
+        ap (λ (s : Option Standing). heard_where s (walk s) r) opening
+        ∙ ap (λ (q : Part). heard_as q (walk (in_message (opening_of first rest))) (opening_of first rest) r) (same_part first rest r)
         ∙ heard_known (part_of first rest r) (known first rest r)
         ∙ rw (h)
 
   heard_single : is_command first ≡ false → heard_by (walk (standing_of first rest)) r ≡ cond (belongs (part_in first rest r)) stays_open (next (closes_at first rest r))
   unfolding heard_by part_in entry_of
   heard_single h =
-      ap (λ (s : Standing). heard_where s (walk s) r) {x = standing_of first rest} {y = standing.Single first} (rw (h))
-      ∙ ap (λ (s : Standing). begun_with (walk s) r.time r) {x = standing.Single first} {y = standing_of first rest} (rw (h))
+      ap (λ (s : Option Standing). heard_where s (walk s) r) {x = standing_of first rest} {y = single first} (rw (h))
+      ∙ ap (λ (s : Option Standing). begun_with (walk s) r.time r) {x = single first} {y = standing_of first rest} (rw (h))
       ∙ begun r.time
       ∙ rw (h)
 
@@ -235,7 +244,7 @@ walk_open (r ∷ rs) bus records clock place first rest few most fit =
         (ap (λ (k : ℕ). walk_over (walk_at bus k r.time records (standing_of r [])) rs) one_more_lem ∙ again r [] records (omega arith)))
 
 pub walk_idle : (rs : List WordRecord) (bus records : ℕ) (clock : Moment) (place : ℕ) → records + length rs < 2 ^ 64 → Fit rs
-    → walk_over (walk_at bus records clock place standing.Nothing) rs ≡ entries_of (groups_of (end_time clock rs) (heard_on bus records rs))
+    → walk_over (walk_at bus records clock place None) rs ≡ entries_of (groups_of (end_time clock rs) (heard_on bus records rs))
 unfolding heard_on found_at passed_with begun_with heard_by
 walk_idle [] bus records clock place most fit = refl
 walk_idle (r ∷ rs) bus records clock place most fit = go (eqb r.bus bus) (walk_idle rs bus (suc records) r.time place (omega (arith, most)) fit.1)
@@ -244,16 +253,16 @@ walk_idle (r ∷ rs) bus records clock place most fit = go (eqb r.bus bus) (walk
     one_more_lem = next_fits records (omega (arith, most)) ∙ omega arith
 
     w : Walk
-    w = walk_at bus records clock place standing.Nothing
+    w = walk_at bus records clock place None
 
     go : (own : Bool)
-        → walk_over (walk_at bus (suc records) r.time place standing.Nothing) rs ≡ entries_of (groups_of (end_time r.time rs) (heard_on bus (suc records) rs))
-        → given (cond own (heard_by w r) (passed_with w standing.Nothing r)).found ++ walk_over (cond own (heard_by w r) (passed_with w standing.Nothing r)).walk rs
+        → walk_over (walk_at bus (suc records) r.time place None) rs ≡ entries_of (groups_of (end_time r.time rs) (heard_on bus (suc records) rs))
+        → given (cond own (heard_by w r) (passed_with w None r)).found ++ walk_over (cond own (heard_by w r) (passed_with w None r)).walk rs
         ≡ entries_of (groups_of (end_time r.time rs) (cond own (record { place = records; heard = r } ∷ heard_on bus (suc records) rs) (heard_on bus (suc records) rs)))
-    go false again = ap (λ (k : ℕ). walk_over (walk_at bus k r.time place standing.Nothing) rs) one_more_lem ∙ again
+    go false again = ap (λ (k : ℕ). walk_over (walk_at bus k r.time place None) rs) one_more_lem ∙ again
     go true again =
-        ap (λ (k : ℕ). walk_over (walk_at bus k r.time records (standing_from r)) rs) one_more_lem
-        ∙ ap (λ (s : Standing). walk_over (walk_at bus (suc records) r.time records s) rs) (begins r)
+        ap (λ (k : ℕ). walk_over (walk_at bus k r.time records (Some (standing_from r))) rs) one_more_lem
+        ∙ ap (λ (s : Option Standing). walk_over (walk_at bus (suc records) r.time records s) rs) (begins r)
         ∙ walk_open rs bus (suc records) r.time records r [] (omega arith) (omega (arith, most)) fit.1
 
 pub walk_entries : (bus : ℕ) (rs : List WordRecord) → length rs < 2 ^ 64 → Fit rs → walk_over (walk_start bus) rs ≡ entries_on bus rs

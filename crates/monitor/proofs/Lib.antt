@@ -1,4 +1,3 @@
-pub mod Cases
 pub mod Feeding
 pub mod Appends
 pub mod Summaries

@@ -1,7 +1,9 @@
 -- The verdict of an entry is what document 01 gives for its plan and its returned records, handed over as bytes. Assumes nothing.
 use Rattle.std.proofs.Common.{◌≡◌, ℕ, zero, suc, ◌+◌, ◌^◌, ◌<◌, ◌≤◌, Bool, true, false, cond, not, ◌||◌, eqb, List, [], ◌∷◌, ◌++◌, length, take, drop, sym, refl, ap, ◌∙◌, subst, ⊎_elim, append_assoc, eq-or-lt_of_le, arith, length-append, drop_at, lt-ltb, eq-eqb, ne_eqb, eqb-true, le-leb}
+use Rattle.std.proofs.lemmas.Bool.{or_parts}
+use Rattle.std.proofs.lemmas.Option.{same_Some}
+use Rattle.std.specs.Prelude.{Some, None, Ok}
 use borrow.Author.Tests.{eqb-false, not-false}
-use Rattle.words.specs.Refusals.{not_refused}
 use Rattle.words.specs.declared.times.Moment.{Moment}
 use Rattle.records.specs.Records.{last_bus, form_of}
 use Rattle.records.specs.Files.{whole, with, forms_of}
@@ -9,20 +11,17 @@ use Rattle.records.specs.Theorems.{Fits}
 use Rattle.records.specs.declared.forms.WordRecord.{WordRecord}
 use Rattle.records.proofs.Ranges.{in_range_time, in_range_bus}
 use Rattle.records.proofs.Theorems.{read_written}
-use Rattle.verdict.specs.Plans.{is_possible}
-use Rattle.verdict.specs.Verdicts.{record_refusal, returned_from, returned_of, finding_of, verdict_of, judged_of}
+use Rattle.verdict.specs.Plans.{is_possible, plan_checks}
+use Rattle.verdict.specs.Verdicts.{record_checks, returned_from, returned_of, finding_of, verdict_of, judged_of}
 use Rattle.verdict.specs.Theorems.{last_after}
-use Rattle.verdict.specs.declared.verdicts.Verdict.{Verdict}
 use Rattle.verdict.specs.declared.plans.Plan.{Plan}
 use Rattle.verdict.specs.declared.judges.Finding.{Finding}
-use Rattle.verdict.specs.declared.judges.Judged.TheVariants as judged
 use Rattle.verdict.proofs.Findings.{taken_given}
-use Rattle.verdict.proofs.Refusals.{plan_accepted}
+use Rattle.verdict.proofs.Refusals.{not_refused_ok, plan_accepted}
 use Rattle.monitor.specs.Entries.{is_second, commands_of, last_command, behind_of, last_in, is_far, own_number, own_bad, own_last, returned_in, has_twins, plan_of, outcome_in}
 use Rattle.monitor.specs.Logs.{Group, Placed, heard_on, part_in, belongs, closes_at, groups_from, groups_of, groups_on, end_time}
 use Rattle.monitor.specs.Theorems.{on_bus, Each, Written, ByTheRules, VerdictOfTheRules}
-use Rattle.monitor.specs.declared.entries.Outcome.TheVariants as outcome
-use Rattle.monitor.proofs.Appends.{or_no, last_time, last_split}
+use Rattle.monitor.proofs.Appends.{last_time, last_split}
 use Rattle.monitor.proofs.Summaries.{last_behind, own_last_lem, plan_bus, plan_until}
 use Rattle.monitor.proofs.Groups.{far_later}
 use Rattle.monitor.proofs.Counts.{heards, heards_on}
@@ -153,7 +152,7 @@ later m n l differ = ⊎_elim (λ same. absurd (eqb-false n m differ (sym same))
 strict : (bus : ℕ) (rest : List WordRecord) (first : WordRecord) → has_twins first rest ≡ false → Chain bus first.time.0 rest → Strict bus first.time.0 rest
 strict bus [] first alone chain = tt
 strict bus (r ∷ rest) first alone chain =
-    let parts = or_no (eqb r.time.0 first.time.0) (has_twins r rest) alone in
+    let parts = or_parts (eqb r.time.0 first.time.0) (has_twins r rest) alone in
     (chain.0, chain.1, later first.time.0 r.time.0 chain.2 parts.0, strict bus rest r parts.1 chain.3)
 
 -- so are those behind the commands, and those that are returned
@@ -176,15 +175,15 @@ strict_last bus (r ∷ rs) t all = omega (arith, all.2, strict_last bus rs r.tim
 
 -- ---- document 01 takes them all
 
-taken : (plan : Plan) (bus t : ℕ) (r : WordRecord) → plan.bus ≡ bus → r.bus ≡ bus → t < r.time.0 → r.time.0 ≤ plan.until.0 → record_refusal plan t r ≡ not_refused
-unfolding record_refusal
+taken : (plan : Plan) (bus t : ℕ) (r : WordRecord) → plan.bus ≡ bus → r.bus ≡ bus → t < r.time.0 → r.time.0 ≤ plan.until.0 → record_checks plan t r ≡ Ok tt
+unfolding record_checks
 taken plan bus t r p b l m = rw (eq-eqb r.bus plan.bus (b ∙ sym p), lt-ltb t r.time.0 l, le-leb r.time.0 plan.until.0 m)
 
-returned_some : (n : ℕ) (plan : Plan) (t : ℕ) (r : WordRecord) (after : List ℕ) → Fits last_bus r → record_refusal plan t r ≡ not_refused
+returned_some : (n : ℕ) (plan : Plan) (t : ℕ) (r : WordRecord) (after : List ℕ) → Fits last_bus r → record_checks plan t r ≡ Ok tt
     → returned_from (suc n) plan t (form_of r ++ after) ≡ with r (returned_from n plan r.time.0 after)
 unfolding returned_from
 returned_some n plan t r after fits ok =
-    rw (ne_eqb (length (form_of r ++ after)) 0 (λ z. omega (arith, z, length-append (form_of r) after)), read_written last_bus r after fits, eq-eqb (record_refusal plan t r) not_refused ok)
+    rw (ne_eqb (length (form_of r ++ after)) 0 (λ z. omega (arith, z, length-append (form_of r) after)), read_written last_bus r after fits, ok)
     (ap (λ (k : List ℕ). with r (returned_from n plan r.time.0 k)) (drop_at (form_of r) after 16 refl))
 
 returned_none : (n : ℕ) (plan : Plan) (t : ℕ) → returned_from n plan t [] ≡ whole []
@@ -203,9 +202,6 @@ returned_all (r ∷ rs) (suc n) plan bus t l p all late =
     ∙ ap (with r) (returned_all rs n plan bus r.time.0 (omega (arith, l, length-append (form_of r) (forms_of rs))) p all.3 late)
 
 -- ---- the verdict
-
-given_same : (v w : Verdict) → outcome.Given v ≡ outcome.Given w → v ≡ w
-given_same v w h = cc
 
 module _ (bus : ℕ) (g : Group) (sound : Sound bus g) where
   abbrev first : WordRecord
@@ -239,14 +235,14 @@ module _ (bus : ℕ) (g : Group) (sound : Sound bus g) where
       subst (λ (t : ℕ). Strict bus t returned) (sym (own_last_lem first rest g.until))
       (strict_drop bus (own_number first rest) (last_command first rest).time.0 (behind_of first rest) (strict_behind bus first rest (strict bus rest first alone sound.chain.3)))
 
-  rules_give : is_possible plan ≡ true → has_twins first rest ≡ false → judged_of plan (forms_of returned) ≡ judged.Given (finding_of plan returned)
+  rules_give : is_possible plan ≡ true → has_twins first rest ≡ false → judged_of plan (forms_of returned) ≡ Ok (finding_of plan returned)
   unfolding returned_of
   rules_give possible alone =
       let all = all_later alone in
       let order = strict_last bus returned plan.last.0 all in
       taken_given plan (forms_of returned) returned
-      (plan_accepted plan possible (omega (arith, bus_same, sound.chain.1, in_range_bus last_bus first sound.chain.0.ranged)) (omega (arith, order, last_same, sound.late, until_same))
-      (omega (arith, until_same, sound.clock)))
+      (not_refused_ok (plan_checks plan) (plan_accepted plan possible (omega (arith, bus_same, sound.chain.1, in_range_bus last_bus first sound.chain.0.ranged)) (omega (arith, order, last_same, sound.late, until_same))
+      (omega (arith, until_same, sound.clock))))
       (returned_all returned (length (forms_of returned)) plan bus plan.last.0 (omega arith) bus_same all (omega (arith, last_same, sound.late, until_same)))
 
   by_the_rules : ByTheRules g
@@ -254,13 +250,13 @@ module _ (bus : ℕ) (g : Group) (sound : Sound bus g) where
   by_the_rules v e = go (not (is_possible plan) || own_bad first rest || has_twins first rest) refl e
     where
       go : (b : Bool) → (not (is_possible plan) || own_bad first rest || has_twins first rest) ≡ b
-          → cond b outcome.None (outcome.Given (record { 0 = verdict_of plan returned })) ≡ outcome.Given v
-          → (f : Finding) × (judged_of plan (forms_of returned) ≡ judged.Given f) × (f.verdict ≡ v)
-      go true h e = let z : ◌≡◌ {A = ℕ} 0 1 = cc in absurd (omega arith)
+          → cond b None (Some (verdict_of plan returned)) ≡ Some v
+          → (f : Finding) × (judged_of plan (forms_of returned) ≡ Ok f) × (f.verdict ≡ v)
+      go true h e = absurd (cc)
       go false h e =
-          let outer = or_no (not (is_possible plan) || own_bad first rest) (has_twins first rest) h in
-          let inner = or_no (not (is_possible plan)) (own_bad first rest) outer.0 in
-          (finding_of plan returned, rules_give (not-false (is_possible plan) inner.0) outer.1, given_same (record { 0 = verdict_of plan returned }) v e)
+          let outer = or_parts (not (is_possible plan) || own_bad first rest) (has_twins first rest) h in
+          let inner = or_parts (not (is_possible plan)) (own_bad first rest) outer.0 in
+          (finding_of plan returned, rules_give (not-false (is_possible plan) inner.0) outer.1, same_Some (verdict_of plan returned) v e)
 
 all_by_the_rules : (bus : ℕ) (gs : List Group) → Each (Sound bus) gs → Each ByTheRules gs
 all_by_the_rules bus [] each = tt

@@ -1,19 +1,19 @@
 -- What an open message of the machine is: the summary of its records. A record more makes it the summary of them and that record; what a record is to it,
 -- and what it closes to, is as the definition says. Assumes nothing.
-use Rattle.std.proofs.Common.{◌≡◌, ℕ, suc, ◌+◌, ◌-◌, ◌^◌, ◌<◌, ◌≤◌, Bool, true, false, cond, not, ◌&&◌, ◌||◌, eqb, ltb, List, [], ◌∷◌, length, get_or, take, drop, sym, refl, ap, ◌∙◌, mod-eq_of_lt, arith, length-append, length-drop, drop_of_length-le, ltb-false, ltb-true, eq-eqb, ne_eqb}
+use Rattle.std.proofs.Common.{◌≡◌, ℕ, suc, ◌+◌, ◌-◌, ◌^◌, ◌<◌, ◌≤◌, Bool, true, false, cond, not, ◌&&◌, ◌||◌, eqb, ltb, List, [], ◌∷◌, length, take, drop, sym, refl, ap, ◌∙◌, mod-eq_of_lt, arith, length-append, length-drop, drop_of_length-le, ltb-false, ltb-true, eq-eqb, ne_eqb}
+use Rattle.std.specs.Prelude.{slice_get, Option, Some, None}
 use mathlib.Core.Bool.{or-false}
 use lib.Seq.{drop-nil, take-append-le, drop-append-le}
 use Rattle.words.specs.Words.{awaited_of}
 use Rattle.words.specs.declared.times.Moment.{Moment}
 use Rattle.records.specs.declared.forms.WordRecord.{WordRecord}
 use Rattle.verdict.specs.Plans.{is_possible, expected_of}
-use Rattle.verdict.specs.Numbers.{good}
 use Rattle.verdict.specs.Facts.{fact_of}
-use Rattle.verdict.specs.Verdicts.{expected_at, finish_of, verdict_of}
+use Rattle.verdict.specs.Verdicts.{finish_of, found_or_shown, verdict_of}
 use Rattle.verdict.specs.Theorems.{found_after, last_after}
+use Rattle.verdict.specs.declared.verdicts.Verdict.{Verdict}
 use Rattle.verdict.specs.declared.plans.Plan.{Plan}
 use Rattle.verdict.specs.declared.plans.Expected.{Expected}
-use Rattle.verdict.specs.declared.plans.Expected.TheVariants.{Nothing}
 use Rattle.monitor.specs.Entries.{is_command, is_data_word, is_second, commands_of, last_command, behind_of, statuses_in, statuses_by, statuses_of, last_in, own_number, is_spoiled, has_twins, plan_with, gap_before, data_words, is_far, expects, part_of, own_last, returned_in, plan_of, outcome_in, message_of}
 use Rattle.words.specs.Counts.{sum64}
 use Rattle.monitor.specs.Machine.{next64, heads_status, gap_after, heard_status, heard_own, heard_returned, heard_word, counted, opened_by, heads_second, with_second, heard_second, joined_by, awaits_with, awaits_second, expects_from, part_for, outcome_of, closed_at}
@@ -22,8 +22,6 @@ use Rattle.monitor.specs.declared.entries.Commands.TheVariants as commands
 use Rattle.monitor.specs.declared.entries.Statuses.{Statuses}
 use Rattle.monitor.specs.declared.entries.Statuses.TheVariants as statuses
 use Rattle.monitor.specs.declared.entries.Gap.{Gap}
-use Rattle.monitor.specs.declared.entries.Gap.TheVariants as gap
-use Rattle.monitor.specs.declared.entries.Outcome.{Outcome}
 use Rattle.monitor.specs.declared.openings.Heads.{Heads}
 use Rattle.monitor.specs.declared.openings.Opening.{Opening}
 use Rattle.monitor.specs.declared.openings.Part.TheVariants.{Second, Status, Other}
@@ -41,6 +39,11 @@ unfolding is_possible
 same_possible (commands.One first) bus other a b c d = refl
 same_possible (commands.Two first second) bus other a b c d = refl
 
+shown_same : (p q : Plan) → expected_of p ≡ expected_of q → (found : Option Verdict) (place last : ℕ) (r : WordRecord)
+    → found_or_shown found p place last r ≡ found_or_shown found q place last r
+shown_same p q e None place last r = ap (λ (k : List Expected). fact_of (slice_get k place) last r) e
+shown_same p q e (Some fact) place last r = refl
+
 -- the summary, where t is the time of the last command word, n the number of own data words and rs the records behind the commands
 abbrev pub built : ℕ → Moment → Heads → ℕ → ℕ → Moment → Bool → ℕ → ℕ → List WordRecord → Opening
 built bus time h words records last twins n t rs = record {
@@ -54,7 +57,7 @@ built bus time h words records last twins n t rs = record {
   spoiled = is_spoiled n t rs;
   twins = twins;
   returned = length (drop n rs);
-  found = record { 0 = found_after (plan_with h.commands bus time time) good 0 (last_after t (take n rs)) (drop n rs) };
+  found = found_after (plan_with h.commands bus time time) None 0 (last_after t (take n rs)) (drop n rs);
 }
 
 length_snoc : (rs : List WordRecord) (r : WordRecord) → length (snoc rs r) ≡ length rs + 1
@@ -66,7 +69,7 @@ next_fits n l = mod-eq_of_lt l
 -- one record more behind the commands
 module _ (bus : ℕ) (time : Moment) (h : Heads) (words records : ℕ) (last : Moment) (twins : Bool) (n t : ℕ) (rs : List WordRecord) (r : WordRecord)
     (e : last.0 ≡ last_after t rs) (few : length rs + 1 < 2 ^ 64) where
-  abbrev made : ℕ → Bool → ℕ → ℕ → Opening
+  abbrev made : ℕ → Bool → ℕ → Option Verdict → Opening
   made left spoiled returned found = record {
     bus = bus;
     time = time;
@@ -78,10 +81,10 @@ module _ (bus : ℕ) (time : Moment) (h : Heads) (words records : ℕ) (last : M
     spoiled = spoiled;
     twins = twins;
     returned = returned;
-    found = record { 0 = found };
+    found = found;
   }
 
-  made_same : {left left' returned returned' found found' : ℕ} {spoiled spoiled' : Bool} → left ≡ left' → spoiled ≡ spoiled' → returned ≡ returned' → found ≡ found'
+  made_same : {left left' returned returned' : ℕ} {spoiled spoiled' : Bool} {found found' : Option Verdict} → left ≡ left' → spoiled ≡ spoiled' → returned ≡ returned' → found ≡ found'
       → made left spoiled returned found ≡ made left' spoiled' returned' found'
   made_same a b c d = rw (a, b, c, d)
 
@@ -98,28 +101,25 @@ module _ (bus : ℕ) (time : Moment) (h : Heads) (words records : ℕ) (last : M
       (omega (arith, length_snoc rs r))
       (ap (λ (k : ℕ). is_spoiled n t rs || is_bad k r) e ∙ sym (spoiled_own n t rs r l))
       (ap length (none_before ∙ sym none))
-      (ap (found_after plan good 0 (last_after t (take n rs))) none_before ∙ sym (ap (found_after plan good 0 (last_after t (take n (snoc rs r)))) none))
+      (ap (found_after plan None 0 (last_after t (take n rs))) none_before ∙ sym (ap (found_after plan None 0 (last_after t (take n (snoc rs r)))) none))
 
   returned : n ≤ length rs → heard_returned (built bus time h words records last twins n t rs) r ≡ built bus time h words records last twins n t (snoc rs r)
   unfolding heard_returned
   returned l =
       let more : drop n (snoc rs r) ≡ snoc (drop n rs) r = drop-append-le n rs (r ∷ []) l in
       let same : take n (snoc rs r) ≡ take n rs = take-append-le n rs (r ∷ []) l in
-      let found = found_after plan good 0 (last_after t (take n rs)) (drop n rs) in
+      let found = found_after plan None 0 (last_after t (take n rs)) (drop n rs) in
       made_same
       (omega (arith, length_snoc rs r))
       (sym (spoiled_returned n t rs r l))
       (next_fits (length (drop n rs)) (omega (arith, length-drop n rs)) ∙ sym (length_snoc (drop n rs) r) ∙ sym (ap length more))
-      (ap
-      (λ (k : List Expected). cond (eqb found good) (fact_of (get_or k (length (drop n rs)) Nothing) last.0 r) found)
-      (same_back h.commands bus bus last r.time time time)
-      ∙ ap (λ (k : ℕ). cond (eqb found good) (fact_of (expected_at plan (length (drop n rs))) k r) found) (e ∙ sym (last_split n t rs))
-      ∙ ap
-      (λ (k : ℕ). cond (eqb found good) (fact_of (expected_at plan k) (last_after (last_after t (take n rs)) (drop n rs)) r) found)
+      (shown_same (plan_with h.commands bus last r.time) plan (same_back h.commands bus bus last r.time time time) found (length (drop n rs)) last.0 r
+      ∙ ap (λ (k : ℕ). found_or_shown found plan (length (drop n rs)) k r) (e ∙ sym (last_split n t rs))
+      ∙ ap (λ (k : ℕ). found_or_shown found plan k (last_after (last_after t (take n rs)) (drop n rs)) r)
       {x = length (drop n rs)} {y = 0 + length (drop n rs)} (omega arith)
-      ∙ sym (found_snoc plan (drop n rs) r good 0 (last_after t (take n rs)))
-      ∙ ap (λ (k : List WordRecord). found_after plan good 0 (last_after t k) (snoc (drop n rs) r)) (sym same)
-      ∙ ap (found_after plan good 0 (last_after t (take n (snoc rs r)))) (sym more))
+      ∙ sym (found_snoc plan (drop n rs) r None 0 (last_after t (take n rs)))
+      ∙ ap (λ (k : List WordRecord). found_after plan None 0 (last_after t k) (snoc (drop n rs) r)) (sym same)
+      ∙ ap (found_after plan None 0 (last_after t (take n (snoc rs r)))) (sym more))
 
   pub word_more : heard_word (built bus time h words records last twins n t rs) r ≡ built bus time h words records last twins n t (snoc rs r)
   unfolding heard_word
@@ -191,7 +191,7 @@ opened first =
       spoiled = false;
       twins = false;
       returned = 0;
-      found = record { 0 = good };
+      found = None;
     })
     {x = n} {y = n - 0} (omega arith))
 
@@ -202,7 +202,7 @@ built_same : {bus : ℕ} {time : Moment} {h h' : Heads} {words words' records re
     → built bus time h words records last twins n t rs ≡ built bus time h' words' records' last' twins' n' t' rs'
 built_same a b c d e f g k = rw (a, b, c, d, e, f, g, k)
 
-heads_same : {cs cs' : Commands} {ss ss' : Statuses} {g g' : Gap} → cs ≡ cs' → ss ≡ ss' → g ≡ g'
+heads_same : {cs cs' : Commands} {ss ss' : Statuses} {g g' : Option Gap} → cs ≡ cs' → ss ≡ ss' → g ≡ g'
     → ◌≡◌ {A = Heads} (record { commands = cs; statuses = ss; gap = g }) (record { commands = cs'; statuses = ss'; gap = g' })
 heads_same a b c = rw (a, b, c)
 
@@ -288,7 +288,7 @@ joined_second first r h =
     both words twins = record {
       bus = first.bus;
       time = first.time;
-      heads = record { commands = commands.Two (record { 0 = first.word }) (record { 0 = r.word }); statuses = statuses.None; gap = gap.None };
+      heads = record { commands = commands.Two (record { 0 = first.word }) (record { 0 = r.word }); statuses = statuses.None; gap = None };
       words = words;
       records = 2;
       last = r.time;
@@ -296,7 +296,7 @@ joined_second first r h =
       spoiled = false;
       twins = twins;
       returned = 0;
-      found = record { 0 = good };
+      found = None;
     }
 
 -- ---- what a record is to it
@@ -326,17 +326,18 @@ same_part first rest r = go (is_command r) refl
 
 -- ---- what it closes to
 
-found_same : (p q : Plan) → expected_of p ≡ expected_of q → (rs : List WordRecord) (found place last : ℕ)
+found_same : (p q : Plan) → expected_of p ≡ expected_of q → (rs : List WordRecord) (found : Option Verdict) (place last : ℕ)
     → found_after p found place last rs ≡ found_after q found place last rs
 found_same p q e [] found place last = refl
 found_same p q e (r ∷ rs) found place last =
-    ap
-    (λ (k : List Expected). found_after p (cond (eqb found good) (fact_of (get_or k place Nothing) last r) found) (suc place) r.time.0 rs) e
-    ∙ found_same p q e rs (cond (eqb found good) (fact_of (expected_at q place) last r) found) (suc place) r.time.0
+    ap (λ (k : Option Verdict). found_after p k (suc place) r.time.0 rs) (shown_same p q e found place last r)
+    ∙ found_same p q e rs (found_or_shown found q place last r) (suc place) r.time.0
 
-finish_same : (p q : Plan) → expected_of p ≡ expected_of q → p.until ≡ q.until → (found place last : ℕ) → finish_of p found place last ≡ finish_of q found place last
+finish_same : (p q : Plan) → expected_of p ≡ expected_of q → p.until ≡ q.until → (found : Option Verdict) (place last : ℕ)
+    → finish_of p found place last ≡ finish_of q found place last
 unfolding finish_of
-finish_same p q e u found place last = rw (e, u)
+finish_same p q e u None place last = rw (e, u)
+finish_same p q e u (Some fact) place last = refl
 
 pub plan_bus : (cs : Commands) (bus : ℕ) (last until : Moment) → (plan_with cs bus last until).bus ≡ bus
 plan_bus (commands.One first) bus last until = refl
@@ -392,15 +393,15 @@ module _ (first : WordRecord) (rest : List WordRecord) (until : Moment) where
   pub own_last_lem : (plan_of first rest until).last.0 ≡ last_after t (take n rs)
   own_last_lem = ap (λ (k : Moment). k.0) (plan_last cs first.bus (own_last first rest).time until) ∙ last_time (last_command first rest) (take n rs)
 
-  same_verdict : finish_of (plan_with cs first.bus (last_in first rest).time until) (opening_of first rest).found.0 (length (drop n rs)) (last_in first rest).time.0
+  same_verdict : finish_of (plan_with cs first.bus (last_in first rest).time until) (opening_of first rest).found (length (drop n rs)) (last_in first rest).time.0
       ≡ verdict_of (plan_of first rest until) (returned_in first rest)
   same_verdict =
       let back = same_back cs first.bus first.bus (last_in first rest).time until (own_last first rest).time until in
       finish_same _ (plan_of first rest until) back (plan_until cs first.bus (last_in first rest).time until ∙ sym (plan_until cs first.bus (own_last first rest).time until)) _ _ _
-      ∙ ap (λ (k : ℕ). finish_of (plan_of first rest until) k (length (drop n rs)) (last_in first rest).time.0)
-      (found_same _ (plan_of first rest until) (same_back cs first.bus first.bus first.time first.time (own_last first rest).time until) (drop n rs) good 0 (last_after t (take n rs))
-      ∙ ap (λ (k : ℕ). found_after (plan_of first rest until) good 0 k (drop n rs)) (sym own_last_lem))
-      ∙ ap (finish_of (plan_of first rest until) (found_after (plan_of first rest until) good 0 (plan_of first rest until).last.0 (drop n rs)) (length (drop n rs)))
+      ∙ ap (λ (k : Option Verdict). finish_of (plan_of first rest until) k (length (drop n rs)) (last_in first rest).time.0)
+      (found_same _ (plan_of first rest until) (same_back cs first.bus first.bus first.time first.time (own_last first rest).time until) (drop n rs) None 0 (last_after t (take n rs))
+      ∙ ap (λ (k : ℕ). found_after (plan_of first rest until) None 0 k (drop n rs)) (sym own_last_lem))
+      ∙ ap (finish_of (plan_of first rest until) (found_after (plan_of first rest until) None 0 (plan_of first rest until).last.0 (drop n rs)) (length (drop n rs)))
       (last_behind first rest ∙ sym (last_split n t rs) ∙ ap (λ (k : ℕ). last_after k (drop n rs)) (sym own_last_lem))
       ∙ look_by_look (plan_of first rest until) (returned_in first rest)
 
@@ -416,7 +417,7 @@ module _ (first : WordRecord) (rest : List WordRecord) (until : Moment) where
 
   pub same_message : closed_at (opening_of first rest) until ≡ message_of first rest until
   unfolding closed_at message_of
-  same_message = ap (λ (k : Outcome). record {
+  same_message = ap (λ (k : Option Verdict). record {
     bus = first.bus;
     time = first.time;
     commands = commands_of first rest;

@@ -1,11 +1,12 @@
 -- Document 02, request a), "A log of whole messages": what belongs to an entry, and what the entry says. An entry is its records, in the order of the
 -- file: the first, and those after it. Assumes nothing.
-use Rattle.std.specs.Prelude.{ℕ, zero, suc, ◌+◌, ◌-◌, Bool, false, cond, not, ◌&&◌, ◌||◌, List, [], ◌∷◌, length, take, drop, ◌==◌, nat_le, nat_lt}
+use Rattle.std.specs.Prelude.{ℕ, zero, suc, ◌+◌, ◌-◌, Bool, false, cond, not, ◌&&◌, ◌||◌, List, [], ◌∷◌, length, take, drop, ◌==◌, nat_le, nat_lt, Option, Some, None}
 use Rattle.words.specs.Words.{since_of, is_spaced, parity_middle, no_response_distance, address_of, awaited_of, is_broadcast, is_valid, command_sync, data_sync}
 use Rattle.words.specs.declared.times.Moment.{Moment}
 use Rattle.records.specs.declared.forms.WordRecord.{WordRecord}
 use Rattle.verdict.specs.Plans.{is_pair, is_possible}
 use Rattle.verdict.specs.Verdicts.{verdict_of}
+use Rattle.verdict.specs.declared.verdicts.Verdict.{Verdict}
 use Rattle.verdict.specs.declared.plans.Plan.{Plan}
 use Rattle.monitor.specs.declared.entries.Commands.{Commands}
 use Rattle.monitor.specs.declared.entries.Commands.TheVariants as commands
@@ -13,8 +14,6 @@ use Rattle.monitor.specs.declared.entries.Statuses.{Statuses}
 use Rattle.monitor.specs.declared.entries.Statuses.TheVariants as statuses
 use Rattle.monitor.specs.declared.entries.Gap.{Gap}
 use Rattle.monitor.specs.declared.entries.Gap.TheVariants as gap
-use Rattle.monitor.specs.declared.entries.Outcome.{Outcome}
-use Rattle.monitor.specs.declared.entries.Outcome.TheVariants as outcome
 use Rattle.monitor.specs.declared.entries.Message.{Message}
 use Rattle.monitor.specs.declared.entries.Entry.{Entry}
 use Rattle.monitor.specs.declared.entries.Entry.TheVariants as entry
@@ -23,13 +22,17 @@ use Rattle.monitor.specs.declared.openings.Part.TheVariants.{Far, Starts, Second
 
 -- ---- words
 
+-- a valid word with that sync
+unfoldable pub is_word : WordRecord → ℕ → Bool
+is_word r sync = is_valid r.sync r.faults r.word r.parity && r.sync == sync
+
 -- "a valid word with command sync"
-unfoldable pub is_command : WordRecord → Bool
-is_command r = is_valid r.sync r.faults r.word r.parity && r.sync == command_sync
+abbrev pub is_command : WordRecord → Bool
+is_command r = is_word r command_sync
 
 -- a valid data word
-unfoldable pub is_data_word : WordRecord → Bool
-is_data_word r = is_valid r.sync r.faults r.word r.parity && r.sync == data_sync
+abbrev pub is_data_word : WordRecord → Bool
+is_data_word r = is_word r data_sync
 
 -- ---- command words
 
@@ -153,10 +156,10 @@ plan_of first rest until = plan_with (commands_of first rest) first.bus (own_las
 
 -- "the verdict that the controller rules give, or "none" where the commands are an impossible plan or the controller's own words are short, invalid or
 -- badly spaced, or two records have one time"
-unfoldable pub outcome_in : WordRecord → List WordRecord → Moment → Outcome
+unfoldable pub outcome_in : WordRecord → List WordRecord → Moment → Option Verdict
 outcome_in first rest until =
-    cond (not (is_possible (plan_of first rest until)) || own_bad first rest || has_twins first rest) outcome.None
-    (outcome.Given (record { 0 = verdict_of (plan_of first rest until) (returned_in first rest) }))
+    cond (not (is_possible (plan_of first rest until)) || own_bad first rest || has_twins first rest) None
+    (Some (verdict_of (plan_of first rest until) (returned_in first rest)))
 
 -- ---- "Each entry has bus, time, command words, statuses .., numbers of valid data words and of records, the gap before the first status, and the verdict"
 
@@ -167,9 +170,9 @@ gap_from before after =
     (gap.Overlap (record { 0 = parity_middle - since_of before after }))
 
 -- "the gap before the first status": from the record just before it, valid or not (DECISIONS 44)
-abbrev pub gap_before : ℕ → List WordRecord → Gap
-gap_before before [] = gap.None
-gap_before before (r ∷ rs) = cond (is_command r) (gap_from before r.time.0) (gap_before r.time.0 rs)
+abbrev pub gap_before : ℕ → List WordRecord → Option Gap
+gap_before before [] = None
+gap_before before (r ∷ rs) = cond (is_command r) (Some (gap_from before r.time.0)) (gap_before r.time.0 rs)
 
 -- "numbers of valid data words": of the whole entry (house)
 abbrev pub data_words : List WordRecord → ℕ

@@ -1,15 +1,13 @@
 -- Document 02, request a): the entries of a file, in order, and where it is refused. Assumes nothing.
-use Rattle.std.specs.Prelude.{ℕ, zero, suc, ◌+◌, Bool, true, false, cond, List, [], ◌∷◌, ◌++◌, length, drop, ◌==◌, nat_lt}
+use Rattle.std.specs.Prelude.{ℕ, zero, suc, ◌+◌, Bool, true, false, cond, List, [], ◌∷◌, ◌++◌, length, drop, ◌==◌, nat_lt, Option, Some, None, Result, Ok, Err}
 use Rattle.words.specs.Words.{no_response_distance}
-use Rattle.words.specs.Refusals.{not_refused, refused_out_of_order}
+use Rattle.words.specs.declared.refusals.Refusal.{Refusal}
+use Rattle.words.specs.declared.refusals.Refusal.TheVariants.{OutOfOrder}
 use Rattle.words.specs.declared.times.Moment.{Moment}
 use Rattle.records.specs.Records.{record_bytes, last_bus, read_of}
 use Rattle.records.specs.Files.{open_of}
-use Rattle.records.specs.declared.files.Opened.{Opened}
-use Rattle.records.specs.declared.files.Opened.TheVariants as opened
+use Rattle.records.specs.declared.files.Cursor.{Cursor}
 use Rattle.records.specs.declared.forms.WordRecord.{WordRecord}
-use Rattle.records.specs.declared.forms.Read.{Read}
-use Rattle.records.specs.declared.forms.Read.TheVariants as read
 use Rattle.monitor.specs.Entries.{is_command, last_in, is_far, part_of, entry_of}
 use Rattle.monitor.specs.declared.entries.Logged.{Logged}
 use Rattle.monitor.specs.declared.openings.Part.{Part}
@@ -103,45 +101,45 @@ log_of rs = merged (entries_on 0 rs) (entries_on 1 rs)
 
 -- ---- "A record earlier than the one before is refused with 6; the log stays."
 
--- The records before the first refusal, and its number, 0 where there is none.
+-- The records before the first refusal, and that, or none.
 pub record Front : Type 0 where
   pub taken : List WordRecord
-  pub refusal : ℕ
+  pub refusal : Option Refusal
 
-abbrev pub stops : ℕ → Front
+abbrev pub stops : Option Refusal → Front
 stops n = record { taken = []; refusal = n }
 
 abbrev pub goes_on : WordRecord → Front → Front
 goes_on r front = record { taken = r ∷ front.taken; refusal = front.refusal }
 
 -- 6 comes after 3, 4, 5 of the same record, and of either bus; whatever the refusal, the file is read up to it and no further (DECISIONS 45)
-abbrev pub front_with : ℕ → Read → (ℕ → Front) → Front
-front_with before (read.Record r) after = cond (nat_lt r.time.0 before) (stops refused_out_of_order) (goes_on r (after r.time.0))
-front_with before (read.Refused n) after = stops n.0
+abbrev pub front_with : ℕ → Result WordRecord Refusal → (ℕ → Front) → Front
+front_with before (Ok r) after = cond (nat_lt r.time.0 before) (stops (Some OutOfOrder)) (goes_on r (after r.time.0))
+front_with before (Err n) after = stops (Some n)
 
 -- of bytes behind the version byte, at most so many records: there are never more records than bytes
 unfoldable pub front_from : ℕ → ℕ → List ℕ → Front
-front_from zero before bytes = stops not_refused
+front_from zero before bytes = stops None
 front_from (suc n) before bytes =
-    cond (length bytes == 0) (stops not_refused) (front_with before (read_of last_bus bytes) (λ (time : ℕ). front_from n time (drop record_bytes bytes)))
+    cond (length bytes == 0) (stops None) (front_with before (read_of last_bus bytes) (λ (time : ℕ). front_from n time (drop record_bytes bytes)))
 
 unfoldable pub front_of : List ℕ → Front
 front_of bytes = front_from (length bytes) 0 bytes
 
 -- ---- "It reads a record file"
 
--- The log of a file: its entries, how many records they are, and the refusal that ended it, 0 at the end of the file.
+-- The log of a file: its entries, how many records they are, and the refusal that ended it, none at the end of the file.
 pub record FileLog : Type 0 where
   pub entries : List Logged
   pub records : ℕ
-  pub refusal : ℕ
+  pub refusal : Option Refusal
 
 abbrev pub logged : Front → FileLog
 logged front = record { entries = log_of front.taken; records = length front.taken; refusal = front.refusal }
 
-abbrev pub log_at : Opened → List ℕ → FileLog
-log_at (opened.At c) file = logged (front_of (drop c.at file))
-log_at (opened.Refused n) file = record { entries = []; records = 0; refusal = n.0 }
+abbrev pub log_at : Result Cursor Refusal → List ℕ → FileLog
+log_at (Ok c) file = logged (front_of (drop c.at file))
+log_at (Err n) file = record { entries = []; records = 0; refusal = Some n }
 
 unfoldable pub file_log : List ℕ → FileLog
 file_log file = log_at (open_of file) file

@@ -1,31 +1,26 @@
 -- The machine that makes the log (02 a): what an open message comes to, one bus's walk, the side that is fed chunk by chunk, and the choice between two
 -- sides. That together they give what Logs.antt says of the whole file, whatever the chunks, is `log_of_the_file`. Assumes nothing.
-use Rattle.std.specs.Prelude.{ℕ, zero, suc, ◌+◌, ◌-◌, Bool, true, false, cond, not, ◌&&◌, ◌||◌, List, [], ◌∷◌, length, drop, ◌==◌, nat_le, nat_lt}
+use Rattle.std.specs.Prelude.{ℕ, zero, suc, ◌+◌, ◌-◌, Bool, true, false, cond, not, ◌&&◌, ◌||◌, List, [], ◌∷◌, length, drop, ◌==◌, nat_le, nat_lt, Option, Some, None, Result, Ok, Err}
 use Rattle.words.specs.Words.{plus_of, since_of, is_spaced, no_response_distance, address_of, awaited_of, is_broadcast}
 use Rattle.words.specs.Counts.{sum64}
-use Rattle.words.specs.Refusals.{not_refused, refused_out_of_order}
 use Rattle.words.specs.declared.times.Moment.{Moment}
 use Rattle.words.specs.declared.commands.CommandWord.{CommandWord}
 use Rattle.words.specs.declared.statuses.StatusWord.{StatusWord}
 use Rattle.words.specs.declared.refusals.Refusal.{Refusal}
+use Rattle.words.specs.declared.refusals.Refusal.TheVariants.{OutOfOrder}
 use Rattle.records.specs.Records.{record_bytes, last_bus, read_of}
 use Rattle.records.specs.declared.forms.WordRecord.{WordRecord}
-use Rattle.records.specs.declared.forms.Read.{Read}
-use Rattle.records.specs.declared.forms.Read.TheVariants as read
 use Rattle.verdict.specs.Plans.{is_pair, is_possible}
-use Rattle.verdict.specs.Numbers.{good}
-use Rattle.verdict.specs.Facts.{fact_of}
-use Rattle.verdict.specs.Verdicts.{expected_at, finish_of}
+use Rattle.verdict.specs.Verdicts.{finish_of, found_or_shown}
+use Rattle.verdict.specs.declared.verdicts.Verdict.{Verdict}
 use Rattle.monitor.specs.Entries.{is_command, is_data_word, is_for, is_from, plan_with, gap_from}
 use Rattle.monitor.specs.declared.entries.Commands.{Commands}
 use Rattle.monitor.specs.declared.entries.Commands.TheVariants as commands
 use Rattle.monitor.specs.declared.entries.Statuses.{Statuses}
 use Rattle.monitor.specs.declared.entries.Statuses.TheVariants as statuses
 use Rattle.monitor.specs.declared.entries.Gap.{Gap}
-use Rattle.monitor.specs.declared.entries.Gap.TheVariants as gap
-use Rattle.monitor.specs.declared.entries.Outcome.{Outcome}
-use Rattle.monitor.specs.declared.entries.Outcome.TheVariants as outcome
 use Rattle.monitor.specs.declared.entries.Message.{Message}
+use Rattle.monitor.specs.declared.entries.Logged.{Logged}
 use Rattle.monitor.specs.declared.entries.Entry.TheVariants as entry
 use Rattle.monitor.specs.declared.openings.Heads.{Heads}
 use Rattle.monitor.specs.declared.openings.Opening.{Opening}
@@ -34,8 +29,6 @@ use Rattle.monitor.specs.declared.openings.Part.TheVariants.{Far, Starts, Second
 use Rattle.monitor.specs.declared.walks.Standing.{Standing}
 use Rattle.monitor.specs.declared.walks.Standing.TheVariants as standing
 use Rattle.monitor.specs.declared.walks.Walk.{Walk}
-use Rattle.monitor.specs.declared.walks.Found.{Found}
-use Rattle.monitor.specs.declared.walks.Found.TheVariants as found
 use Rattle.monitor.specs.declared.walks.Stop.{Stop}
 use Rattle.monitor.specs.declared.walks.Stop.TheVariants as stop
 use Rattle.monitor.specs.declared.walks.Side.{Side}
@@ -62,7 +55,7 @@ unfoldable pub opened_by : WordRecord → Opening
 opened_by r = record {
   bus = r.bus;
   time = r.time;
-  heads = record { commands = commands.One (record { 0 = r.word }); statuses = statuses.None; gap = gap.None };
+  heads = record { commands = commands.One (record { 0 = r.word }); statuses = statuses.None; gap = None };
   words = 0;
   records = 1;
   last = r.time;
@@ -70,7 +63,7 @@ opened_by r = record {
   spoiled = false;
   twins = false;
   returned = 0;
-  found = record { 0 = good };
+  found = None;
 }
 
 abbrev pub awaits_with : Commands → Opening → WordRecord → Bool
@@ -115,12 +108,12 @@ heard_second o r = record {
 }
 
 -- Before the first status the gap.
-abbrev pub gap_with : Statuses → Gap → Moment → Moment → Gap
-gap_with statuses.None before last time = gap_from last.0 time.0
+abbrev pub gap_with : Statuses → Option Gap → Moment → Moment → Option Gap
+gap_with statuses.None before last time = Some (gap_from last.0 time.0)
 gap_with (statuses.One first) before last time = before
 gap_with (statuses.Two first second) before last time = before
 
-unfoldable pub gap_after : Heads → Moment → Moment → Gap
+unfoldable pub gap_after : Heads → Moment → Moment → Option Gap
 gap_after h last time = gap_with h.statuses h.gap last time
 
 unfoldable pub heads_status : Heads → Moment → WordRecord → Heads
@@ -162,9 +155,8 @@ heard_own o r = record {
 }
 
 -- The fact that is found, or else what the record shows at its place.
-abbrev pub found_with : Opening → WordRecord → ℕ
-found_with o r =
-    cond (o.found.0 == good) (fact_of (expected_at (plan_with o.heads.commands o.bus o.last r.time) o.returned) o.last.0 r) o.found.0
+abbrev pub found_with : Opening → WordRecord → Option Verdict
+found_with o r = found_or_shown o.found (plan_with o.heads.commands o.bus o.last r.time) o.returned o.last.0 r
 
 unfoldable pub heard_returned : Opening → WordRecord → Opening
 heard_returned o r = record {
@@ -178,7 +170,7 @@ heard_returned o r = record {
   spoiled = o.spoiled;
   twins = o.twins;
   returned = next64 o.returned;
-  found = record { 0 = found_with o r };
+  found = found_with o r;
 }
 
 unfoldable pub heard_word : Opening → WordRecord → Opening
@@ -209,10 +201,10 @@ joined_by o Other r = counted (heard_word o r) r
 
 -- ---- closed at Q
 
-unfoldable pub outcome_of : Opening → Moment → Outcome
+unfoldable pub outcome_of : Opening → Moment → Option Verdict
 outcome_of o until =
-    cond (o.spoiled || o.twins || not (o.left == 0) || not (is_possible (plan_with o.heads.commands o.bus o.last until))) outcome.None
-    (outcome.Given (record { 0 = finish_of (plan_with o.heads.commands o.bus o.last until) o.found.0 o.returned o.last.0 }))
+    cond (o.spoiled || o.twins || not (o.left == 0) || not (is_possible (plan_with o.heads.commands o.bus o.last until))) None
+    (Some (finish_of (plan_with o.heads.commands o.bus o.last until) o.found o.returned o.last.0))
 
 unfoldable pub closed_at : Opening → Moment → Message
 closed_at o until = record {
@@ -229,68 +221,68 @@ closed_at o until = record {
 -- ---- one bus's walk
 
 abbrev pub walk_start : ℕ → Walk
-walk_start bus = record { bus = bus; records = 0; clock = record { 0 = 0 }; place = 0; standing = standing.Nothing }
+walk_start bus = record { bus = bus; records = 0; clock = record { 0 = 0 }; place = 0; standing = None }
 
 unfoldable pub standing_from : WordRecord → Standing
 standing_from r = cond (is_command r) (standing.Message (opened_by r)) (standing.Single r)
 
-abbrev pub found_where : Standing → ℕ → Moment → Found
-found_where standing.Nothing place until = found.Nothing
-found_where (standing.Single r) place until = found.Entry (record { place = place; entry = entry.Single r })
-found_where (standing.Message o) place until = found.Entry (record { place = place; entry = entry.Message (closed_at o until) })
+abbrev pub found_where : Option Standing → ℕ → Moment → Option Logged
+found_where None place until = None
+found_where (Some (standing.Single r)) place until = Some (record { place = place; entry = entry.Single r })
+found_where (Some (standing.Message o)) place until = Some (record { place = place; entry = entry.Message (closed_at o until) })
 
 -- the standing entry, closed at Q
-unfoldable pub found_at : Walk → Moment → Found
+unfoldable pub found_at : Walk → Moment → Option Logged
 found_at w until = found_where w.standing w.place until
 
-abbrev pub reading : Walk → Found → Side
+abbrev pub reading : Walk → Option Logged → Side
 reading w f = record { walk = w; found = f; stop = stop.Reading }
 
 -- A record begins an entry: the one before it is closed at Q.
 unfoldable pub begun_with : Walk → Moment → WordRecord → Side
 begun_with w until r =
-    reading (record { bus = w.bus; records = next64 w.records; clock = r.time; place = w.records; standing = standing_from r }) (found_at w until)
+    reading (record { bus = w.bus; records = next64 w.records; clock = r.time; place = w.records; standing = Some (standing_from r) }) (found_at w until)
 
 -- It begins none.
-unfoldable pub passed_with : Walk → Standing → WordRecord → Side
-passed_with w s r = reading (record { bus = w.bus; records = next64 w.records; clock = r.time; place = w.place; standing = s }) found.Nothing
+unfoldable pub passed_with : Walk → Option Standing → WordRecord → Side
+passed_with w s r = reading (record { bus = w.bus; records = next64 w.records; clock = r.time; place = w.place; standing = s }) None
 
 abbrev pub heard_as : Part → Walk → Opening → WordRecord → Side
 heard_as Far w o r = begun_with w (record { 0 = plus_of o.last.0 no_response_distance }) r
 heard_as Starts w o r = begun_with w r.time r
-heard_as Second w o r = passed_with w (standing.Message (joined_by o Second r)) r
-heard_as Status w o r = passed_with w (standing.Message (joined_by o Status r)) r
-heard_as Other w o r = passed_with w (standing.Message (joined_by o Other r)) r
+heard_as Second w o r = passed_with w (Some (standing.Message (joined_by o Second r))) r
+heard_as Status w o r = passed_with w (Some (standing.Message (joined_by o Status r))) r
+heard_as Other w o r = passed_with w (Some (standing.Message (joined_by o Other r))) r
 
 unfoldable pub heard_message : Walk → Opening → WordRecord → Side
 heard_message w o r = heard_as (part_for o r) w o r
 
-abbrev pub heard_where : Standing → Walk → WordRecord → Side
-heard_where standing.Nothing w r = begun_with w r.time r
-heard_where (standing.Single s) w r = begun_with w r.time r
-heard_where (standing.Message o) w r = heard_message w o r
+abbrev pub heard_where : Option Standing → Walk → WordRecord → Side
+heard_where None w r = begun_with w r.time r
+heard_where (Some (standing.Single s)) w r = begun_with w r.time r
+heard_where (Some (standing.Message o)) w r = heard_message w o r
 
 -- A record of its bus.
 unfoldable pub heard_by : Walk → WordRecord → Side
 heard_by w r = heard_where w.standing w r
 
 -- The end, of the file or by a refusal: the standing entry is closed at the time of the last record.
-unfoldable pub stopped_by : Walk → Refusal → Side
-stopped_by w n = record {
-  walk = record { bus = w.bus; records = w.records; clock = w.clock; place = w.place; standing = standing.Nothing };
+unfoldable pub stopped_by : Walk → Stop → Side
+stopped_by w ends = record {
+  walk = record { bus = w.bus; records = w.records; clock = w.clock; place = w.place; standing = None };
   found = found_at w w.clock;
-  stop = stop.Ended n;
+  stop = ends;
 }
 
 -- A record of either bus.
 unfoldable pub taken_by : Walk → WordRecord → Side
 taken_by w r =
-    cond (nat_lt r.time.0 w.clock.0) (stopped_by w (record { 0 = refused_out_of_order }))
+    cond (nat_lt r.time.0 w.clock.0) (stopped_by w (stop.Refused OutOfOrder))
     (cond (r.bus == w.bus) (heard_by w r) (passed_with w w.standing r))
 
-abbrev pub read_with : Walk → Read → Side
-read_with w (read.Record r) = taken_by w r
-read_with w (read.Refused n) = stopped_by w n
+abbrev pub read_with : Walk → Result WordRecord Refusal → Side
+read_with w (Ok r) = taken_by w r
+read_with w (Err n) = stopped_by w (stop.Refused n)
 
 unfoldable pub read_by : Walk → List ℕ → Side
 read_by w bytes = read_with w (read_of last_bus bytes)
@@ -298,12 +290,13 @@ read_by w bytes = read_with w (read_of last_bus bytes)
 -- ---- a side, fed chunk by chunk
 
 unfoldable pub side_start : ℕ → Side
-side_start bus = reading (walk_start bus) found.Nothing
+side_start bus = reading (walk_start bus) None
 
-abbrev pub ready_with : Found → Stop → Ready
-ready_with (found.Entry e) s = ready.Give e.place
-ready_with found.Nothing stop.Reading = ready.Feed
-ready_with found.Nothing (stop.Ended n) = ready.Over
+abbrev pub ready_with : Option Logged → Stop → Ready
+ready_with (Some e) s = ready.Give e.place
+ready_with None stop.Reading = ready.Feed
+ready_with None stop.Ended = ready.Over
+ready_with None (stop.Refused n) = ready.Over
 
 unfoldable pub ready_of : Side → Ready
 ready_of s = ready_with s.found s.stop
@@ -328,7 +321,7 @@ fed_of s bytes = fed_from (length bytes) s bytes 0
 
 -- "no byte left is its end" (01 Numbers for a refused call)
 abbrev pub ended_with : Walk → List ℕ → Side
-ended_with w [] = stopped_by w (record { 0 = not_refused })
+ended_with w [] = stopped_by w stop.Ended
 ended_with w (byte ∷ rest) = read_by w (byte ∷ rest)
 
 -- while 16 bytes or more are left it is too early
@@ -336,7 +329,7 @@ unfoldable pub ended_by : Side → List ℕ → Side
 ended_by s tail = cond (nat_le record_bytes (length tail) || not (wants_more s)) s (ended_with s.walk tail)
 
 unfoldable pub given_of : Side → Side
-given_of s = record { walk = s.walk; found = found.Nothing; stop = s.stop }
+given_of s = record { walk = s.walk; found = None; stop = s.stop }
 
 -- ---- two sides
 

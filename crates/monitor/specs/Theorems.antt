@@ -1,25 +1,20 @@
 -- What is proved of the log (02 a). Each is proved in proofs/ under the name at its side. Assumes nothing.
-use Rattle.std.specs.Prelude.{◌≡◌, ℕ, suc, ◌+◌, ◌^◌, ◌<◌, ◌≤◌, true, false, cond, ◌&&◌, List, [], ◌∷◌, ◌++◌, length, drop, ◌==◌}
-use Rattle.words.specs.Refusals.{not_refused, refused_out_of_order}
+use Rattle.std.specs.Prelude.{◌≡◌, ℕ, suc, ◌+◌, ◌^◌, ◌<◌, ◌≤◌, true, false, cond, ◌&&◌, List, [], ◌∷◌, ◌++◌, length, drop, ◌==◌, Option, Some, None, Ok, Err}
 use Rattle.words.specs.declared.refusals.Refusal.{Refusal}
+use Rattle.words.specs.declared.refusals.Refusal.TheVariants.{OutOfOrder}
 use Rattle.records.specs.Records.{record_bytes, last_bus, read_of}
 use Rattle.records.specs.Files.{version, forms_of, file_of}
 use Rattle.records.specs.Theorems.{Fits}
-use Rattle.records.specs.declared.forms.Read.TheVariants as read
 use Rattle.records.specs.declared.forms.WordRecord.{WordRecord}
 use Rattle.verdict.specs.Verdicts.{judged_of}
 use Rattle.verdict.specs.declared.verdicts.Verdict.{Verdict}
 use Rattle.verdict.specs.declared.judges.Finding.{Finding}
-use Rattle.verdict.specs.declared.judges.Judged.TheVariants as judged
 use Rattle.monitor.specs.Entries.{is_second, behind_of, statuses_in, expects, returned_in, plan_of, outcome_in}
 use Rattle.monitor.specs.Logs.{Group, groups_on, end_time, entries_on, log_of, FileLog, file_log}
 use Rattle.monitor.specs.Machine.{side_start, ready_of, fed_of, ended_by, given_of, choice_of}
-use Rattle.monitor.specs.declared.entries.Outcome.TheVariants as outcome
 use Rattle.monitor.specs.declared.entries.Entry.{Entry}
 use Rattle.monitor.specs.declared.entries.Entry.TheVariants as entry
 use Rattle.monitor.specs.declared.entries.Logged.{Logged}
-use Rattle.monitor.specs.declared.walks.Found.{Found}
-use Rattle.monitor.specs.declared.walks.Found.TheVariants as found
 use Rattle.monitor.specs.declared.walks.Stop.{Stop}
 use Rattle.monitor.specs.declared.walks.Stop.TheVariants as stop
 use Rattle.monitor.specs.declared.walks.Side.{Side}
@@ -43,7 +38,7 @@ pub data Course : Side → List ℕ → Side → List ℕ → List Logged → Si
       → Course a us b vs es a' b'
   give_first : {a b a' b' : Side} {us vs : List ℕ} {es : List Logged} (e : Logged)
       → choice_of (ready_of a) (ready_of b) ≡ GiveFirst
-      → a.found ≡ found.Entry e
+      → a.found ≡ Some e
       → Course (given_of a) us b vs es a' b'
       → Course a us b vs (e ∷ es) a' b'
   feed_second : {a b a' b' : Side} {us vs : List ℕ} {es : List Logged} (chunk rest : List ℕ)
@@ -58,13 +53,18 @@ pub data Course : Side → List ℕ → Side → List ℕ → List Logged → Si
       → Course a us b vs es a' b'
   give_second : {a b a' b' : Side} {us vs : List ℕ} {es : List Logged} (e : Logged)
       → choice_of (ready_of a) (ready_of b) ≡ GiveSecond
-      → b.found ≡ found.Entry e
+      → b.found ≡ Some e
       → Course a us (given_of b) vs es a' b'
       → Course a us b vs (e ∷ es) a' b'
 
+-- how a side stops with a refusal, and without one
+abbrev pub stop_of : Option Refusal → Stop
+stop_of None = stop.Ended
+stop_of (Some n) = stop.Refused n
+
 -- a side that has ended as the file does
 abbrev pub EndsAs : FileLog → Side → Type 0
-EndsAs log s = (s.stop ≡ stop.Ended (record { 0 = log.refusal })) × (s.walk.records ≡ log.records)
+EndsAs log s = (s.stop ≡ stop_of log.refusal) × (s.walk.records ≡ log.records)
 
 -- Of a file of fewer than 2^64 bytes, in whatever chunks, the entries given are those of the definition, in order, and both sides end with its refusal and
 -- its number of records: log_of_the_file
@@ -75,11 +75,13 @@ LogOfTheFile =
     → (es ≡ (file_log (version ∷ bytes)).entries) × EndsAs (file_log (version ∷ bytes)) a × EndsAs (file_log (version ∷ bytes)) b
 
 -- What is left to do of a side: of one that reads on, its bytes and two steps more; of one that has ended, none; and one where it has an entry to give.
-abbrev pub left_with : Stop → Found → ℕ → ℕ
-left_with stop.Reading found.Nothing bytes = bytes + 2
-left_with stop.Reading (found.Entry e) bytes = bytes + 3
-left_with (stop.Ended n) found.Nothing bytes = 0
-left_with (stop.Ended n) (found.Entry e) bytes = 1
+abbrev pub left_with : Stop → Option Logged → ℕ → ℕ
+left_with stop.Reading None bytes = bytes + 2
+left_with stop.Reading (Some e) bytes = bytes + 3
+left_with stop.Ended None bytes = 0
+left_with stop.Ended (Some e) bytes = 1
+left_with (stop.Refused n) None bytes = 0
+left_with (stop.Refused n) (Some e) bytes = 1
 
 abbrev pub left_of : Side → List ℕ → ℕ
 left_of s us = left_with s.stop s.found (length us)
@@ -93,7 +95,7 @@ pub record Feeds (s : Side) (us : List ℕ) : Type 0 where
 
 -- A side that is to give: it has an entry, and less is left after it.
 pub record Gives (s : Side) (us : List ℕ) : Type 0 where
-  pub found : (e : Logged) × (s.found ≡ found.Entry e)
+  pub found : (e : Logged) × (s.found ≡ Some e)
   pub given : left_of (given_of s) us < left_of s us
 
 -- Each call that `choose` asks for lessens what is left of its side: goes_on_lem
@@ -117,10 +119,10 @@ pub data Finishes : Side → List ℕ → Side → List ℕ → Type 0 where
       → ((chunk rest : List ℕ) → vs ≡ chunk ++ rest → record_bytes ≤ length chunk → Finishes a us (fed_of b chunk).side (drop (fed_of b chunk).taken vs))
       → (length vs < record_bytes → Finishes a us (ended_by b vs) [])
       → Finishes a us b vs
-  gives_first : {a b : Side} {us vs : List ℕ} (e : Logged) → choice_of (ready_of a) (ready_of b) ≡ GiveFirst → a.found ≡ found.Entry e
+  gives_first : {a b : Side} {us vs : List ℕ} (e : Logged) → choice_of (ready_of a) (ready_of b) ≡ GiveFirst → a.found ≡ Some e
       → Finishes (given_of a) us b vs
       → Finishes a us b vs
-  gives_second : {a b : Side} {us vs : List ℕ} (e : Logged) → choice_of (ready_of a) (ready_of b) ≡ GiveSecond → b.found ≡ found.Entry e
+  gives_second : {a b : Side} {us vs : List ℕ} (e : Logged) → choice_of (ready_of a) (ready_of b) ≡ GiveSecond → b.found ≡ Some e
       → Finishes a us (given_of b) vs
       → Finishes a us b vs
 
@@ -213,16 +215,16 @@ Written before [] = Unit {0}
 Written before (r ∷ rs) = Fits last_bus r × (before ≤ r.time.0) × Written r.time.0 rs
 
 -- what stands behind a record of that time, and the refusal that ends the log there: no byte; bytes that the reader refuses; a record that is earlier
-pub data EndsBy (before : ℕ) : List ℕ → ℕ → Type 0 where
-  at_end : EndsBy before [] not_refused
-  unread : {bytes : List ℕ} (n : Refusal) → 0 < length bytes → read_of last_bus bytes ≡ read.Refused n → EndsBy before bytes n.0
-  earlier : {bytes : List ℕ} (r : WordRecord) → read_of last_bus bytes ≡ read.Record r → r.time.0 < before → EndsBy before bytes refused_out_of_order
+pub data EndsBy (before : ℕ) : List ℕ → Option Refusal → Type 0 where
+  at_end : EndsBy before [] None
+  unread : {bytes : List ℕ} (n : Refusal) → 0 < length bytes → read_of last_bus bytes ≡ Err n → EndsBy before bytes (Some n)
+  earlier : {bytes : List ℕ} (r : WordRecord) → read_of last_bus bytes ≡ Ok r → r.time.0 < before → EndsBy before bytes (Some OutOfOrder)
 
 -- A file gives the log of the records before the first that is refused, whatever stands behind them: log_stays
 abbrev pub LogStays : Type 0
 LogStays =
     (rs : List WordRecord) → Written 0 rs
-    → (bytes : List ℕ) (n : ℕ) → EndsBy (end_time (record { 0 = 0 }) rs).0 bytes n
+    → (bytes : List ℕ) (n : Option Refusal) → EndsBy (end_time (record { 0 = 0 }) rs).0 bytes n
     → file_log (file_of rs ++ bytes) ≡ record { entries = log_of rs; records = length rs; refusal = n }
 
 -- ---- "the verdict that the controller rules give"
@@ -230,9 +232,9 @@ LogStays =
 -- Where an entry has a verdict, it is what document 01 gives for its plan and all its returned records, handed over as bytes
 abbrev pub ByTheRules : Group → Type 0
 ByTheRules g =
-    (v : Verdict) → outcome_in g.first g.rest g.until ≡ outcome.Given v
+    (v : Verdict) → outcome_in g.first g.rest g.until ≡ Some v
     → (f : Finding)
-    × (judged_of (plan_of g.first g.rest g.until) (forms_of (returned_in g.first g.rest)) ≡ judged.Given f)
+    × (judged_of (plan_of g.first g.rest g.until) (forms_of (returned_in g.first g.rest)) ≡ Ok f)
     × (f.verdict ≡ v)
 
 -- verdict_of_the_rules

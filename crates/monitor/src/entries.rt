@@ -1,6 +1,6 @@
 // The entries of a log, and what is asked of one record and of a message's command words (02 a). Meaning: specs/Entries.antt. Refusals: none.
 ghost use Rattle.std.specs.Prelude.{◌≡◌, if◌then◌else◌};
-ghost use Rattle.monitor.specs.Entries.{is_command, is_data_word, is_for, is_from, plan_with, gap_from};
+ghost use Rattle.monitor.specs.Entries.{is_word, is_command, is_data_word, is_for, is_from, plan_with, gap_from};
 ghost use Rattle.monitor.specs.Machine.{with_second, with_status};
 
 use records::WordRecord;
@@ -8,37 +8,29 @@ use verdict::{Plan, Verdict};
 use words::{COMMAND_SYNC, CommandWord, DATA_SYNC, Moment, StatusWord, Ticks};
 
 // The command words of a message: a second one between two terminals.
-#[derive(Clone, Copy)]
+#[derive(Clone, Copy, Debug, PartialEq, Eq)]
 pub enum Commands {
     One(CommandWord),
     Two(CommandWord, CommandWord),
 }
 
-// "statuses (its other valid words with command sync)"
-#[derive(Clone, Copy)]
+// "statuses (its other valid words with command sync)": none, one or two, so an enum of its own and no Option.
+#[derive(Clone, Copy, Debug, PartialEq, Eq)]
 pub enum Statuses {
     None,
     One(StatusWord),
     Two(StatusWord, StatusWord),
 }
 
-// "the gap before the first status": none without a status; below 0, by so many ticks, where it comes before the middle of the parity bit of the word before it.
-#[derive(Clone, Copy)]
+// The gap between two words: below 0, by so many ticks, where the second comes before the middle of the parity bit of the first.
+#[derive(Clone, Copy, Debug, PartialEq, Eq)]
 pub enum Gap {
-    None,
     Apart(Ticks),
     Overlap(Ticks),
 }
 
-// "the verdict that the controller rules give, or "none""
-#[derive(Clone, Copy)]
-pub enum Outcome {
-    None,
-    Given(Verdict),
-}
-
 // "Each entry has bus, time, command words, statuses .., numbers of valid data words and of records, the gap before the first status, and the
-// verdict"
+// verdict": "the gap before the first status", none without a status; "the verdict that the controller rules give, or "none""
 #[derive(Clone, Copy)]
 pub struct Message {
     pub bus: u8,
@@ -47,8 +39,8 @@ pub struct Message {
     pub statuses: Statuses,
     pub words: u64,
     pub records: u64,
-    pub gap: Gap,
-    pub outcome: Outcome,
+    pub gap: Option<Gap>,
+    pub outcome: Option<Verdict>,
 }
 
 // "A record outside any message is an entry of its own, kept whole"
@@ -65,38 +57,47 @@ pub struct Logged {
     pub entry: Entry,
 }
 
+// Says whether the record is a valid word with that sync.
+#[tactic(auto, unfolding(crate::specs::Entries::is_word))]
+fn is_word(heard: WordRecord, sync: u8) -> bool
+    ensures answer { result ≡ is_word heard sync }
+{
+    words::is_valid(heard.sync, heard.faults, heard.word, heard.parity) & (heard.sync == sync)
+}
+
 // Says whether the record is a valid word with command sync.
 pub(crate) fn is_command(heard: WordRecord) -> bool
     ensures answer { result ≡ is_command heard }
 {
-    words::is_valid(heard.sync, heard.faults, heard.word, heard.parity)
-        & (heard.sync == COMMAND_SYNC)
+    is_word(heard, COMMAND_SYNC)
 }
 
 // Says whether the record is a valid data word.
 pub(crate) fn is_data_word(heard: WordRecord) -> bool
     ensures answer { result ≡ is_data_word heard }
 {
-    words::is_valid(heard.sync, heard.faults, heard.word, heard.parity) & (heard.sync == DATA_SYNC)
+    is_word(heard, DATA_SYNC)
 }
 
 // Gives how many valid data words the record is: 1 or none.
 pub(crate) fn data_words(heard: WordRecord) -> u64
     ensures number { result ≡ (if is_data_word heard then 1 else 0) }
 {
-    if is_data_word(heard) { 1 } else { 0 }
+    u64::from(is_data_word(heard))
 }
 
 // Gives the gap between two words, below 0 where they overlap.
+#[tactic(auto, unfolding(crate::specs::Entries::gap_from))]
 pub(crate) fn signed_gap(before: Moment, after: Moment) -> Gap
     ensures gap { result ≡ gap_from before.0 after.0 }
 {
     let distance = after.since(before).0;
     let middle = Ticks::PARITY_MIDDLE.0;
     if middle <= distance {
-        return Gap::Apart(Ticks(distance - middle));
+        Gap::Apart(Ticks(distance - middle))
+    } else {
+        Gap::Overlap(Ticks(middle - distance))
     }
-    Gap::Overlap(Ticks(middle - distance))
 }
 
 impl Commands {
@@ -125,6 +126,7 @@ impl Commands {
     }
 
     // Gives the two commands, once the second one came.
+    #[tactic(auto, unfolding(crate::specs::Machine::with_second))]
     pub(crate) fn with(self, second: CommandWord) -> Commands
         ensures commands { result ≡ with_second self second }
     {
@@ -135,6 +137,7 @@ impl Commands {
     }
 
     // Says whether one of the commands goes to that address.
+    #[tactic(auto, unfolding(crate::specs::Entries::is_for))]
     pub(crate) fn is_for(self, address: u16) -> bool
         ensures answer { result ≡ is_for self address }
     {
@@ -149,6 +152,7 @@ impl Commands {
 
 impl Statuses {
     // Says whether one of the statuses is from that address.
+    #[tactic(auto, unfolding(crate::specs::Entries::is_from))]
     pub(crate) fn is_from(self, address: u16) -> bool
         ensures answer { result ≡ is_from self address }
     {
@@ -162,6 +166,7 @@ impl Statuses {
     }
 
     // Gives the statuses with one more. No message has a third: each is from another address of its two commands.
+    #[tactic(auto, unfolding(crate::specs::Machine::with_status))]
     pub(crate) fn with(self, status: StatusWord) -> Statuses
         ensures statuses { result ≡ with_status self status }
     {

@@ -8,7 +8,7 @@ mod openings;
 mod sides;
 mod walks;
 
-pub use entries::{Commands, Entry, Gap, Logged, Message, Outcome, Statuses};
+pub use entries::{Commands, Entry, Gap, Logged, Message, Statuses};
 pub use openings::{Heads, Opening};
 pub use sides::{Choice, Fed, choose};
-pub use walks::{Found, Side, Standing, Stop, Walk};
+pub use walks::{Side, Standing, Stop, Walk};

@@ -5,51 +5,45 @@ ghost use Rattle.monitor.specs.Machine.{walk_start, standing_from, found_at, beg
 
 use crate::entries::{Entry, Logged, is_command};
 use crate::openings::{Opening, Part};
-use records::{LAST_BUS, Read, WordRecord, read_record};
-use std::num::wrapping_add_u64;
+use records::{LAST_BUS, WordRecord, read_record};
 use words::{Moment, Refusal, Ticks};
 
-// What stands open on the bus: nothing before its first record, then the latest record's entry. A single record is given once the next comes.
+// What stands open on the bus: the latest record's entry. A single record is given once the next comes.
 #[derive(Clone, Copy)]
 pub enum Standing {
-    Nothing,
     Single(WordRecord),
     Message(Opening),
 }
 
-// One bus's walk: how many records of the file were read, of either bus, and the time of the last; the place of the standing entry's first.
+// One bus's walk: how many records of the file were read, of either bus, and the time of the last; what stands open, nothing before the bus's
+// first record, and the place of its first.
 #[derive(Clone, Copy)]
 pub struct Walk {
     pub bus: u8,
     pub records: u64,
     pub clock: Moment,
     pub place: u64,
-    pub standing: Standing,
+    pub standing: Option<Standing>,
 }
 
-// An entry that closed, where one did.
-#[derive(Clone, Copy)]
-pub enum Found {
-    Nothing,
-    Entry(Logged),
-}
-
-// How far a walk is: it reads on, or it has come to the end of the file (no refusal) or to a record that is refused.
-#[derive(Clone, Copy)]
+// How far a walk is: it reads on, or it has come to the end of the file or to a record that is refused.
+#[derive(Clone, Copy, Debug, PartialEq, Eq)]
 pub enum Stop {
     Reading,
-    Ended(Refusal),
+    Ended,
+    Refused(Refusal),
 }
 
-// One bus's side of the log: its walk, the entry that waits to be given, and how far it is.
+// One bus's side of the log: its walk, the entry that waits to be given, where one closed, and how far it is.
 #[derive(Clone, Copy)]
 pub struct Side {
     pub walk: Walk,
-    pub found: Found,
+    pub found: Option<Logged>,
     pub stop: Stop,
 }
 
 // Gives what stands open once a record begins an entry: "A record outside any message is an entry of its own".
+#[tactic(auto, unfolding(crate::specs::Machine::standing_from))]
 fn stand(heard: WordRecord) -> Standing
     ensures standing { result ≡ standing_from heard }
 {
@@ -69,135 +63,120 @@ impl Walk {
             records: 0,
             clock: Moment(0),
             place: 0,
-            standing: Standing::Nothing,
+            standing: None,
         }
     }
 
-    // Gives the standing entry, closed at Q.
-    fn close(self, until: Moment) -> Found
+    // Gives the standing entry, closed at Q, where one stands open.
+    #[tactic(auto, unfolding(crate::specs::Machine::found_at))]
+    fn close(self, until: Moment) -> Option<Logged>
         ensures found { result ≡ found_at self until }
     {
-        let place = self.place;
-        let standing = self.standing;
-        match standing {
-            Standing::Nothing => Found::Nothing,
-            Standing::Single(heard) => Found::Entry(Logged {
-                place,
-                entry: Entry::Single(heard),
-            }),
-            Standing::Message(opening) => Found::Entry(Logged {
-                place,
-                entry: Entry::Message(opening.close(until)),
-            }),
-        }
+        let entry = match self.standing? {
+            Standing::Single(heard) => Entry::Single(heard),
+            Standing::Message(opening) => Entry::Message(opening.close(until)),
+        };
+        Some(Logged {
+            place: self.place,
+            entry,
+        })
     }
 
     // Gives the walk once a record begins the next entry, with the one before it closed at Q.
+    #[tactic(auto, unfolding(crate::specs::Machine::begun_with))]
     fn begin(self, until: Moment, heard: WordRecord) -> Side
         ensures side { result ≡ begun_with self until heard }
     {
-        let closed = self.close(until);
-        let standing = stand(heard);
-        let clock = heard.time;
-        let walk = Walk {
-            bus: self.bus,
-            records: wrapping_add_u64(self.records, 1),
-            clock,
-            place: self.records,
-            standing,
-        };
         Side {
-            walk,
-            found: closed,
+            walk: Walk {
+                records: self.records.wrapping_add(1),
+                clock: heard.time,
+                place: self.records,
+                standing: Some(stand(heard)),
+                ..self
+            },
+            found: self.close(until),
             stop: Stop::Reading,
         }
     }
 
     // Gives the walk with a record that begins no entry of this bus.
-    fn pass(self, standing: Standing, heard: WordRecord) -> Side
+    #[tactic(auto, unfolding(crate::specs::Machine::passed_with))]
+    fn pass(self, standing: Option<Standing>, heard: WordRecord) -> Side
         ensures side { result ≡ passed_with self standing heard }
     {
-        let clock = heard.time;
-        let walk = Walk {
-            bus: self.bus,
-            records: wrapping_add_u64(self.records, 1),
-            clock,
-            place: self.place,
-            standing,
-        };
         Side {
-            walk,
-            found: Found::Nothing,
+            walk: Walk {
+                records: self.records.wrapping_add(1),
+                clock: heard.time,
+                standing,
+                ..self
+            },
+            found: None,
             stop: Stop::Reading,
         }
     }
 
     // Gives the walk after a record of its bus, with a message open.
+    #[tactic(auto, unfolding(crate::specs::Machine::heard_message))]
     fn hear_in(self, opening: Opening, heard: WordRecord) -> Side
         ensures side { result ≡ heard_message self opening heard }
     {
         match opening.part(heard) {
             Part::Far => self.begin(opening.last.plus(Ticks::NO_RESPONSE_DISTANCE), heard),
             Part::Starts => self.begin(heard.time, heard),
-            Part::Second => self.pass(Standing::Message(opening.join(Part::Second, heard)), heard),
-            Part::Status => self.pass(Standing::Message(opening.join(Part::Status, heard)), heard),
-            Part::Other => self.pass(Standing::Message(opening.join(Part::Other, heard)), heard),
+            part => self.pass(Some(Standing::Message(opening.join(part, heard))), heard),
         }
     }
 
     // Gives the walk after a record of its bus.
+    #[tactic(auto, unfolding(crate::specs::Machine::heard_by))]
     fn hear(self, heard: WordRecord) -> Side
         ensures side { result ≡ heard_by self heard }
     {
-        let standing = self.standing;
-        match standing {
-            Standing::Nothing => self.begin(heard.time, heard),
-            Standing::Single(_) => self.begin(heard.time, heard),
-            Standing::Message(opening) => self.hear_in(opening, heard),
+        match self.standing {
+            Some(Standing::Message(opening)) => self.hear_in(opening, heard),
+            Some(Standing::Single(_)) | None => self.begin(heard.time, heard),
         }
     }
 
-    // Gives the side of a walk that ends here: the standing entry is closed at the time of the file's last record.
-    pub(crate) fn stop(self, refusal: Refusal) -> Side
-        ensures side { result ≡ stopped_by self refusal }
+    // Gives the side of a walk that ends here, and how: the standing entry is closed at the time of the file's last record.
+    #[tactic(auto, unfolding(crate::specs::Machine::stopped_by))]
+    pub(crate) fn stop(self, stop: Stop) -> Side
+        ensures side { result ≡ stopped_by self stop }
     {
-        let found = self.close(self.clock);
-        let clock = self.clock;
-        let walk = Walk {
-            bus: self.bus,
-            records: self.records,
-            clock,
-            place: self.place,
-            standing: Standing::Nothing,
-        };
         Side {
-            walk,
-            found,
-            stop: Stop::Ended(refusal),
+            walk: Walk {
+                standing: None,
+                ..self
+            },
+            found: self.close(self.clock),
+            stop,
         }
     }
 
     // Gives the walk after a record of either bus. "A record earlier than the one before is refused with 6; the log stays."
+    #[tactic(auto, unfolding(crate::specs::Machine::taken_by))]
     fn take(self, heard: WordRecord) -> Side
         ensures side { result ≡ taken_by self heard }
     {
-        if heard.time.0 < self.clock.0 {
-            return self.stop(Refusal::OUT_OF_ORDER);
+        if heard.time < self.clock {
+            return self.stop(Stop::Refused(Refusal::OutOfOrder));
         }
         if heard.bus == self.bus {
             return self.hear(heard);
         }
-        let standing = self.standing;
-        self.pass(standing, heard)
+        self.pass(self.standing, heard)
     }
 
     // Gives the walk after the record at the front of some bytes.
+    #[tactic(auto, unfolding(crate::specs::Machine::read_by))]
     pub(crate) fn read(self, bytes: &[u8]) -> Side
         ensures side { result ≡ read_by self bytes.now }
     {
         match read_record(bytes, LAST_BUS) {
-            Read::Record(heard) => self.take(heard),
-            Read::Refused(refusal) => self.stop(refusal),
+            Ok(heard) => self.take(heard),
+            Err(refusal) => self.stop(Stop::Refused(refusal)),
         }
     }
 }

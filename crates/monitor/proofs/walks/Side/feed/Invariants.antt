@@ -1,10 +1,12 @@
--- The loop's invariant: what is left at the place comes to what the whole gives. Assumes nothing.
-use Rattle.std.proofs.Common.{◌-◌, length}
+-- The loop's invariant: what is left of the bytes comes to what the whole gives. Assumes nothing.
+use Rattle.std.proofs.Common.{◌≡◌}
+use Rattle.std.specs.Slice.Iter.{chunks_exact_rest, chunks_exact_size}
+use Rattle.records.specs.Records.{record_bytes}
 use Rattle.monitor.proofs.Feeding.{Feeding}
 use Rattle.monitor.proofs.walks.Side.feed.Given as goal
 
-abbrev pub invariant-loop-at : goal.invariant-loop-at
-invariant-loop-at l = Feeding l.bytes l.initial.side l.side l.at
-
-abbrev pub decreases-loop-at : goal.decreases-loop-at
-decreases-loop-at l = length l.bytes - l.at
+abbrev pub invariant-loop-record : goal.invariant-loop-record
+invariant-loop-record l = record {
+  size : chunks_exact_size l.record-iterator ≡ record_bytes;
+  left : Feeding l.bytes l.fn.self l.side (chunks_exact_rest l.record-iterator) l.taken;
+}
