@@ -39,8 +39,12 @@ unfolding shown_of passes
 shown_is byte l =
     eqb-true (cond (is_ascii_control byte) 63 byte) (shown_of byte) (passed 256 (λ (i : ℕ). eqb (cond (is_ascii_control i) 63 i) (shown_of i)) refl byte l)
 
-pub shown_as : (byte : ℕ) (control : Bool) → byte < 256 → control ≡ is_ascii_control byte → cond control 63 byte ≡ shown_of byte
-shown_as byte control l e = rw e (shown_is byte l)
+module _ (byte : ℕ) (control : Bool) (l : byte < 256) (e : control ≡ is_ascii_control byte) where
+  pub shown_mark : control ≡ true → 63 ≡ shown_of byte
+  shown_mark h = ap (λ (b : Bool). cond b 63 byte) (sym h ∙ e) ∙ shown_is byte l
+
+  pub shown_byte : control ≡ false → byte ≡ shown_of byte
+  shown_byte h = ap (λ (b : Bool). cond b 63 byte) (sym h ∙ e) ∙ shown_is byte l
 
 pub shown_plain : ShownPlain
 unfolding shown_of

@@ -25,5 +25,6 @@ pub fn is_dash(name: &[u8]) -> bool
 pub(crate) fn shown(byte: u8) -> u8
     ensures byte { result ≡ shown_of byte }
 {
-    if byte.is_ascii_control() { b'?' } else { byte }
+    let control = byte.is_ascii_control();
+    if control { b'?' } else { byte }
 }
