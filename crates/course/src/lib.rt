@@ -4,10 +4,10 @@
 
 ghost use Rattle.std.specs.Prelude.{◌≡◌};
 
-use records::{LAST_BUS, Read, WordRecord, read_record};
+use records::{LAST_BUS, WordRecord, read_record};
 use std::num::wrapping_add_u64;
-use terminal::{Answer, Event, Happened, NextMoment, Setup, Terminal};
-use words::{Moment, Refusal, StatusWord};
+use terminal::{Answer, Event, Happened, Setup, Terminal};
+use words::Refusal;
 
 // A call: its kind, then the 16 bytes of a record, from which it takes what it needs.
 const CALL_BYTES: usize = 17;
@@ -20,28 +20,25 @@ const MARK: u8 = 2;
 
 const SEND: u8 = 10;
 
-fn first_of(words: [u16; 32]) -> u16 {
-    words[0]
-}
-
 // Gives the sum turned left by one bit.
 fn turned(sum: u64) -> u64 {
     (sum << 1) | (sum >> 63)
 }
 
-// Gives the sum with what an event gave: its refusal, or its answer.
-fn added(sum: u64, refusal: Refusal, answer: Answer) -> u64 {
-    let turned = turned(sum);
-    if refusal.0 != 0 {
-        return wrapping_add_u64(turned, refusal.0 as u64);
-    }
-    if !answer.given {
+// Gives the sum with an event's refusal.
+fn refused(sum: u64, refusal: Refusal) -> u64 {
+    wrapping_add_u64(turned(sum), refusal.number() as u64)
+}
+
+// Gives the sum with the answer that an event carries, if any.
+fn answered(sum: u64, answer: Option<Answer>) -> u64 {
+    let Some(answer) = answer else {
         return sum;
-    }
+    };
     let words = answer.words;
-    let first = first_of(words);
-    let numbers = ((answer.status.0 as u64) << 48) ^ ((answer.count as u64) << 32) ^ (first as u64);
-    wrapping_add_u64(turned, answer.due.0 ^ numbers)
+    let numbers =
+        ((answer.status.0 as u64) << 48) ^ ((answer.count as u64) << 32) ^ (words[0] as u64);
+    wrapping_add_u64(turned(sum), answer.due.0 ^ numbers)
 }
 
 // Gives the sum with the next moment, that of none being 0, where the host asks for it.
@@ -51,38 +48,29 @@ fn asked(sum: u64, terminal: Terminal, ask: bool) -> u64 {
     }
     let next = terminal.next_moment();
     match next {
-        NextMoment::At(moment) => wrapping_add_u64(turned(sum), moment.0),
-        NextMoment::Never => turned(sum),
+        Some(moment) => wrapping_add_u64(turned(sum), moment.0),
+        None => turned(sum),
     }
 }
 
 // As after an event that did nothing, on a terminal with every mask on.
 fn start(address: u16) -> Happened {
     let setup = Setup::build(address, [0xFFFF_FFFF; 32], [0xFFFF_FFFF; 32]);
-    let answer = Answer {
-        given: false,
-        bus: 0,
-        due: Moment(0),
-        status: StatusWord(0),
-        count: 0,
-        words: [0; 32],
-    };
     let terminal = Terminal::fresh(setup);
     Happened {
-        refusal: Refusal::NONE,
-        answer,
-        cut: false,
         terminal,
+        answer: None,
+        refusal: None,
+        cut: false,
     }
 }
 
 fn set_up(before: Terminal, address: u16) -> Terminal {
     let masks = [0xFFFF_FFFFu32; 32];
-    let made = terminal::set_up(address, &masks, &masks);
-    if made.refusal.0 != 0 {
-        return before;
+    match terminal::set_up(address, &masks, &masks) {
+        Ok(terminal) => terminal,
+        Err(_) => before,
     }
-    made.terminal
 }
 
 // A set-up or a host call with the record's word: an address, a flag in its lowest bit, or the word itself.
@@ -126,15 +114,17 @@ fn play(calls: &[u8], ask: bool, receive: &mut [u16; 1024], transmit: &mut [u16;
     let mut at = 0;
     while at < calls.len() {
         let kind = calls[at];
-        let read = read_record(&calls[at + 1..], LAST_BUS);
-        let Read::Record(heard) = read else {
+        let Ok(heard) = read_record(&calls[at + 1..], LAST_BUS) else {
             return sum;
         };
         let terminal = happened.terminal;
         if (kind == RECORD) | (kind == MARK) {
             happened = terminal.event(event_of(kind, heard), receive, transmit);
-            let answer = happened.answer;
-            sum = asked(added(sum, happened.refusal, answer), happened.terminal, ask);
+            sum = match happened.refusal {
+                Some(refusal) => refused(sum, refusal),
+                None => answered(sum, happened.answer),
+            };
+            sum = asked(sum, happened.terminal, ask);
         } else if kind == SEND {
             send(heard, transmit);
         } else {

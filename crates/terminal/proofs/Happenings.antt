@@ -3,7 +3,7 @@ use mathlib.Core.Path.{◌≡◌, sym, ap, ap₂, ◌∙◌}
 use mathlib.Core.Bool.{Bool}
 use mathlib.Core.List.{List}
 use Prim.Native.Nat.{ℕ}
-use Rattle.words.specs.Refusals.{not_refused}
+use Rattle.std.specs.Prelude.{Option, None}
 use Rattle.terminal.specs.States.{at_time}
 use Rattle.terminal.specs.Rules.{rule1_answer}
 use Rattle.terminal.specs.Events.{passed_of, taken_of, cut_of, happens_of}
@@ -19,16 +19,16 @@ use Rattle.terminal.specs.declared.events.Happened.{Happened}
 use Rattle.terminal.proofs.Works.{passed_framed}
 use Rattle.terminal.proofs.Meanings.{taken_changed, cut_changed}
 
-abbrev accepted : Answer → Bool → State → Happened
-accepted answer cut next = record { terminal = next; answer = answer; refusal = record { 0 = not_refused }; cut = cut }
+abbrev accepted : Option Answer → Bool → State → Happened
+accepted answer cut next = record { terminal = next; answer = answer; refusal = None; cut = cut }
 
 -- what the code gives of an answer and of the work after rules 1 and 2
-abbrev given : State → Told → Answer → Work → Happened
+abbrev given : State → Told → Option Answer → Work → Happened
 given s told answer w =
     accepted answer (cut_by w told.heard (heard_meaning s.setup.own w told))
     (at_time (with_work s (changed_of s.setup.own w told.heard (heard_meaning s.setup.own w told))) told.heard.time.0)
 
-happens_at : (s : State) (e : Event) (t : ℕ) (transmit : List ℕ) (answer : Answer)
+happens_at : (s : State) (e : Event) (t : ℕ) (transmit : List ℕ) (answer : Option Answer)
     → accepted answer (cut_of (passed_of s t transmit) e) (taken_of (passed_of s t transmit) e)
     ≡ accepted answer
     (cut_by (work_of (passed_of s t transmit)) (told_of e).heard (heard_meaning s.setup.own (work_of (passed_of s t transmit)) (told_of e)))
@@ -47,7 +47,7 @@ unfolding happens_of
 happens_given s (Mark t) transmit = sym (happens_at s (Mark t) t.0 transmit _)
 happens_given s (Word r) transmit = sym (happens_at s (Word r) r.time.0 transmit _)
 
-pub happens : (s : State) (e : Event) (transmit : List ℕ) (told : Told) (w : Work) (answer : Answer) (m : Meaning) (cut : Bool) (taken : Work) (next : State)
+pub happens : (s : State) (e : Event) (transmit : List ℕ) (told : Told) (w : Work) (answer : Option Answer) (m : Meaning) (cut : Bool) (taken : Work) (next : State)
     → told ≡ told_of e
     → w ≡ work_of (passed_of s told.heard.time.0 transmit)
     → answer ≡ rule1_answer s told.heard.time.0 transmit

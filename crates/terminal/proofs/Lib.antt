@@ -1,7 +1,6 @@
 pub mod Accepted
 pub mod Awaited
 pub mod Bench
-pub mod Copies
 pub mod Counts
 pub mod Happenings
 pub mod Meanings

@@ -5,11 +5,13 @@ use Prim.Native.Nat.{ℕ, ◌+◌, ◌*◌, ◌<◌}
 use native.Mathlib.Omega.{arith}
 use lib.Dec.{eqb, leb, ltb}
 use borrow.Author.Tests.{eqb-true, ne_eqb}
+use Rattle.std.specs.Prelude.{Option, Some, None}
+use Rattle.words.specs.declared.refusals.Refusal.TheVariants.{TableSize, OutOfRange, OutOfOrder}
 use Rattle.words.specs.Words.{word_ticks, on_clock}
 use Rattle.words.proofs.Truth.{and_both}
 use Rattle.records.specs.declared.forms.WordRecord.{WordRecord}
 use Rattle.terminal.specs.Commands.{is_own}
-use Rattle.terminal.specs.Messages.{is_on, awaits_data, is_sending, is_next_data, is_second, is_status_from}
+use Rattle.terminal.specs.Messages.{is_on, awaits_data, is_sent, is_sending, is_next_data, is_second, is_status_from}
 use Rattle.terminal.specs.Settling.{other_bus}
 use Rattle.terminal.specs.Rules.{faulty_of, rule4, cuts_sending, next_data, next_word, rule5, rules3to6}
 use Rattle.terminal.specs.Events.{time_of, event_refusal, taken_of, cut_of}
@@ -78,7 +80,7 @@ is_data_word Begins = false
 is_data_word SecondCommand = false
 is_data_word Status = false
 is_data_word DataWord = true
-is_data_word (Faulty fault) = false
+is_data_word Faulty = false
 is_data_word Nothing = false
 
 false≢ : {X : Type 0} → false ≡ true → X
@@ -123,17 +125,13 @@ other_bus_else bus = go (eqb bus 0) refl
     go true e = let zero : bus ≡ 0 = eqb-true bus 0 e in ne_eqb bus 1 (λ one. absurd (omega arith))
     go false e = e
 
-stays_false : (a x y : Bool) → (a && false && x && y) ≡ false
-stays_false true x y = refl
-stays_false false x y = refl
-
-one_bus : (s : Sending) (bus t : ℕ) → is_sending s bus t ≡ true → is_sending s (other_bus bus) t ≡ false
-unfolding is_sending
-one_bus s bus t h =
-    let tests = (and_both (s.on && eqb s.bus bus && leb s.from.0 t) (ltb t (s.from.0 + word_ticks * s.words)) h).0 in
-    let first = (and_both (s.on && eqb s.bus bus) (leb s.from.0 t) tests).0 in
-    let here : s.bus ≡ bus = eqb-true s.bus bus (and_both s.on (eqb s.bus bus) first).1 in
-    rw (here, other_bus_else bus) (stays_false s.on _ _)
+one_bus : (o : Option Sending) (bus t : ℕ) → is_sending o bus t ≡ true → is_sending o (other_bus bus) t ≡ false
+unfolding is_sending is_sent
+one_bus None bus t h = refl
+one_bus (Some s) bus t h =
+    let tests = (and_both (eqb s.bus bus && leb s.from.0 t) (ltb t (s.from.0 + word_ticks * s.words)) h).0 in
+    let here : s.bus ≡ bus = eqb-true s.bus bus (and_both (eqb s.bus bus) (leb s.from.0 t) tests).0 in
+    rw (here, other_bus_else bus) refl
 
 quiet : (b : Bool) (m n : Meaning) → is_beginning m ≡ false → is_beginning n ≡ false → is_beginning (cond b m n) ≡ false
 quiet true m n p q = p
@@ -174,7 +172,7 @@ mark_ranged false = refl
 pub told_refused : (s : State) (e : Event) (n m : ℕ) → event_refusal s (Word (told_of e).heard) n m ≡ event_refusal s e n m
 unfolding event_refusal
 told_refused s (Mark t) n m =
-    ap (λ (x : Bool). cond (eqb n 1024 && eqb m 1024) (cond x (cond (leb s.time.0 t.0) 0 6) 5) 1) (sym (mark_ranged (on_clock t.0)))
+    ap (λ (x : Bool). cond (eqb n 1024 && eqb m 1024) (cond x (cond (leb s.time.0 t.0) None (Some OutOfOrder)) (Some OutOfRange)) (Some TableSize)) (sym (mark_ranged (on_clock t.0)))
 told_refused s (Word r) n m = refl
 
 pub told_time : (e : Event) → (told_of e).heard.time.0 ≡ time_of e

@@ -13,11 +13,11 @@ use Rattle.terminal.specs.Messages.{awaits_data, is_whole, awaits_first, awaited
 use Rattle.terminal.specs.declared.states.Phase.{Phase}
 use Rattle.terminal.specs.declared.states.Phase.TheVariants.{Idle, First, Pledged, Confirmed, Data}
 use Rattle.terminal.specs.declared.states.Message.{Message}
-use Rattle.terminal.specs.declared.messages.NextMoment.{NextMoment}
-use Rattle.terminal.specs.declared.messages.NextMoment.TheVariants.{Never}
+use Rattle.words.specs.declared.times.Moment.{Moment}
+use Rattle.std.specs.Prelude.{Option, None}
 
 -- not at most is less
-not_most : (a b : ℕ) → ltb b a ≡ not (leb a b)
+pub not_most : (a b : ℕ) → ltb b a ≡ not (leb a b)
 not_most a b =
     dite (dec_le a b)
     (λ h. rw (le-leb a b h, le-ltb b a h) refl)
@@ -40,10 +40,10 @@ first_at_lem m Confirmed x is h = h ∙ (rw is (not_most (awaited_of m.command.0
 first_at_lem m Data x is h = rw is h
 
 -- with no message there is none
-pub none_never : next_moment_of no_message ≡ Never
+pub none_never : next_moment_of no_message ≡ None
 unfolding next_moment_of is_whole
 none_never = refl
 
-pub at_phase_lem : (m : Message) (p : Phase) (x : NextMoment) → is_whole m ≡ false → m.phase ≡ p → x ≡ awaited_moment p m → x ≡ next_moment_of m
+pub at_phase_lem : (m : Message) (p : Phase) (x : Option Moment) → is_whole m ≡ false → m.phase ≡ p → x ≡ awaited_moment p m → x ≡ next_moment_of m
 unfolding next_moment_of
 at_phase_lem m p x missing is h = rw missing (h ∙ sym (ap (λ (q : Phase). awaited_moment q m) is))

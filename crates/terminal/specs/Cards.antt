@@ -1,6 +1,6 @@
 -- Document 01, "Bench cards": "Address 5, all legal, fresh". One table with one test: the starred cards, those on words among them, and the
 -- rest. Assumes nothing.
-use Rattle.std.specs.Prelude.{ℕ, ◌+◌, ◌-◌, ◌^◌, Bool, true, not, ◌&&◌, List, [], ◌∷◌, ◌++◌, eqb, length, get_or, replicate}
+use Rattle.std.specs.Prelude.{ℕ, ◌+◌, ◌-◌, ◌^◌, Bool, true, ◌&&◌, List, [], ◌∷◌, ◌++◌, false, eqb, length, get_or, replicate, Option, Some, None, is_none}
 use Rattle.words.specs.Words.{parity_of, command_sync, data_sync}
 use Rattle.words.specs.Cards.{word_cards}
 use Rattle.words.specs.Cards as words
@@ -47,9 +47,10 @@ unfoldable pub same_words : List ℕ → List ℕ → ℕ → Bool
 same_words words [] place = true
 same_words words (w ∷ rest) place = eqb (get_or words place 0) w && same_words words rest (place + 1)
 
-unfoldable pub is_answer : Answer → ℕ → ℕ → ℕ → List ℕ → Bool
-is_answer a bus due st ws =
-    a.given && eqb a.bus bus && eqb a.due.0 due && eqb a.status.0 st && eqb a.count (length ws) && same_words a.words ws 0
+unfoldable pub is_answer : Option Answer → ℕ → ℕ → ℕ → List ℕ → Bool
+is_answer None bus due st ws = false
+is_answer (Some a) bus due st ws =
+    eqb a.bus bus && eqb a.due.0 due && eqb a.status.0 st && eqb a.count (length ws) && same_words a.words ws 0
 
 -- the transmit table, and the receive table at first
 unfoldable pub zeros : List ℕ
@@ -58,7 +59,7 @@ zeros = replicate 1024 0
 unfoldable pub steps : State → List ℕ → List Step → Bool
 steps s receive [] = true
 steps s receive (quiet e ∷ rest) =
-    not (event_of s e receive zeros).answer.given && eqb (event_of s e receive zeros).refusal.0 0
+    is_none (event_of s e receive zeros).answer && is_none (event_of s e receive zeros).refusal
     && steps (event_of s e receive zeros).terminal (event_receive s e receive zeros) rest
 steps s receive (answers e bus due st ws ∷ rest) =
     is_answer (event_of s e receive zeros).answer bus due st ws && steps (event_of s e receive zeros).terminal (event_receive s e receive zeros) rest

@@ -1,7 +1,8 @@
 -- Document 01, "The terminal": set-up, an event whole with its refusals, host calls. Assumes nothing.
-use Rattle.std.specs.Prelude.{ℕ, Bool, false, cond, ◌&&◌, List, eqb, leb, length, replicate}
+use Rattle.std.specs.Prelude.{ℕ, Bool, false, cond, ◌&&◌, List, eqb, leb, length, replicate, Option, Some, None, is_none, Result, Ok, Err}
 use Rattle.words.specs.Words.{on_clock}
-use Rattle.words.specs.Refusals.{not_refused, refused_table_size, refused_own_address, refused_out_of_range, refused_out_of_order}
+use Rattle.words.specs.declared.refusals.Refusal.{Refusal}
+use Rattle.words.specs.declared.refusals.Refusal.TheVariants.{TableSize, OwnAddress, OutOfRange, OutOfOrder}
 use Rattle.records.specs.Records.{last_bus, in_range}
 use Rattle.terminal.specs.States.{own_of, setup_of, fresh_held, with_selftest, no_message, no_sending, fresh_of, with_held, with_message, with_sending, at_time}
 use Rattle.terminal.specs.Settling.{no_answer}
@@ -11,25 +12,33 @@ use Rattle.terminal.specs.declared.states.Terminal.{Terminal as State}
 use Rattle.terminal.specs.declared.events.Event.{Event}
 use Rattle.terminal.specs.declared.events.Event.TheVariants.{Mark, Word}
 use Rattle.terminal.specs.declared.events.Happened.{Happened}
-use Rattle.terminal.specs.declared.setups.SetUp.{SetUp}
+use Rattle.terminal.specs.declared.setups.RefusedSetUp.{RefusedSetUp}
 
 -- ---- set-up
 
 -- "Set up with an own address 0 to 30 and two tables of 32 masks". "Set-up: 1, 2.": "a lent mask table not 32 masks"; "own address above 30".
 -- Of the tables only their lengths matter.
-unfoldable pub set_up_refusal : ℕ → ℕ → ℕ → ℕ
+unfoldable pub set_up_refusal : ℕ → ℕ → ℕ → Option Refusal
 set_up_refusal address receive transmit =
-    cond (eqb receive 32 && eqb transmit 32) (cond (leb address 30) not_refused refused_own_address) refused_table_size
+    cond (eqb receive 32 && eqb transmit 32) (cond (leb address 30) None (Some OwnAddress)) (Some TableSize)
 
 -- The terminal that a refused set-up gives: address 31, nothing legal, so that it never answers (house, DECISIONS 18).
 abbrev pub nothing_legal : Setup
 nothing_legal = setup_of (own_of 31) (replicate 32 0) (replicate 32 0)
 
-unfoldable pub set_up_of : ℕ → List ℕ → List ℕ → SetUp
+-- The fresh terminal, or the refusal with that one.
+abbrev pub set_up_by : Option Refusal → State → Result State RefusedSetUp
+set_up_by None terminal = Ok terminal
+set_up_by (Some refusal) terminal = Err (record { terminal = fresh_of nothing_legal; refusal = refusal })
+
+unfoldable pub set_up_of : ℕ → List ℕ → List ℕ → Result State RefusedSetUp
 set_up_of address receive transmit =
-    cond (eqb (set_up_refusal address (length receive) (length transmit)) not_refused)
-    (record { refusal = record { 0 = not_refused }; terminal = fresh_of (setup_of (own_of address) receive transmit) })
-    (record { refusal = record { 0 = set_up_refusal address (length receive) (length transmit) }; terminal = fresh_of nothing_legal })
+    set_up_by (set_up_refusal address (length receive) (length transmit)) (fresh_of (setup_of (own_of address) receive transmit))
+
+-- The terminal that a set-up gives, accepted or not.
+abbrev pub terminal_of : Result State RefusedSetUp → State
+terminal_of (Ok terminal) = terminal
+terminal_of (Err refused) = refused.terminal
 
 -- ---- an event
 
@@ -44,11 +53,11 @@ is_in_range (Word r) = in_range last_bus r
 
 -- "Every event lends a receive and a transmit table of exactly 1,024 words". "Event: 1, 5, 6.": "a lent word table is not 1,024 words"; "a field
 -- or a time out of range"; "event earlier than the last". Of the tables only their lengths matter.
-unfoldable pub event_refusal : State → Event → ℕ → ℕ → ℕ
+unfoldable pub event_refusal : State → Event → ℕ → ℕ → Option Refusal
 event_refusal s e receive transmit =
     cond (eqb receive 1024 && eqb transmit 1024)
-    (cond (is_in_range e) (cond (leb s.time.0 (time_of e)) not_refused refused_out_of_order) refused_out_of_range)
-    refused_table_size
+    (cond (is_in_range e) (cond (leb s.time.0 (time_of e)) None (Some OutOfOrder)) (Some OutOfRange))
+    (Some TableSize)
 
 -- The state at the event's time, rules 1 and 2 done, the limit of 02 b with rule 2; then its record.
 unfoldable pub passed_of : State → ℕ → List ℕ → State
@@ -65,24 +74,24 @@ cut_of s (Word r) = cuts_sending s r
 -- An event may carry an answer and cut its sending (DECISIONS 4).
 unfoldable pub happens_of : State → Event → List ℕ → Happened
 happens_of s e transmit = record {
-  refusal = record { 0 = not_refused };
+  refusal = None;
   answer = rule1_answer s (time_of e) transmit;
   cut = cut_of (passed_of s (time_of e) transmit) e;
   terminal = taken_of (passed_of s (time_of e) transmit) e;
 }
 
 -- "A refusal gives its number and nothing else; state, tables and buffers stay."
-abbrev pub refused_of : State → ℕ → Happened
-refused_of s n = record { refusal = record { 0 = n }; answer = no_answer; cut = false; terminal = s }
+abbrev pub refused_of : State → Option Refusal → Happened
+refused_of s refusal = record { refusal = refusal; answer = no_answer; cut = false; terminal = s }
 
 unfoldable pub event_of : State → Event → List ℕ → List ℕ → Happened
 event_of s e receive transmit =
-    cond (eqb (event_refusal s e (length receive) (length transmit)) not_refused) (happens_of s e transmit)
+    cond (is_none (event_refusal s e (length receive) (length transmit))) (happens_of s e transmit)
     (refused_of s (event_refusal s e (length receive) (length transmit)))
 
 unfoldable pub event_receive : State → Event → List ℕ → List ℕ → List ℕ
 event_receive s e receive transmit =
-    cond (eqb (event_refusal s e (length receive) (length transmit)) not_refused) (rule1_receive s (time_of e) receive) receive
+    cond (is_none (event_refusal s e (length receive) (length transmit))) (rule1_receive s (time_of e) receive) receive
 
 -- ---- host calls
 

@@ -1,5 +1,6 @@
 -- Document 01, "The terminal": the message under way, the sending, and the next moment. Assumes nothing.
-use Rattle.std.specs.Prelude.{ℕ, ◌+◌, ◌*◌, Bool, true, false, not, cond, ◌&&◌, ◌||◌, eqb, ltb, leb}
+use Rattle.std.specs.Prelude.{ℕ, ◌+◌, ◌*◌, Bool, true, false, not, cond, ◌&&◌, ◌||◌, eqb, ltb, leb, Option, Some, None}
+use Rattle.words.specs.declared.times.Moment.{Moment}
 use Rattle.words.specs.Words.{plus_of, due_distance, spacing_most, word_ticks, address_of, count_of, is_transmit, is_mode, is_broadcast, is_spaced, command_sync, data_sync, awaited_of}
 use Rattle.records.specs.declared.forms.WordRecord.{WordRecord}
 use Rattle.terminal.specs.Commands.{is_valid_record}
@@ -8,8 +9,6 @@ use Rattle.terminal.specs.declared.states.Phase.{Phase}
 use Rattle.terminal.specs.declared.states.Phase.TheVariants.{Idle, First, Pledged, Confirmed, Data}
 use Rattle.terminal.specs.declared.states.Message.{Message}
 use Rattle.terminal.specs.declared.states.Sending.{Sending}
-use Rattle.terminal.specs.declared.messages.NextMoment.{NextMoment}
-use Rattle.terminal.specs.declared.messages.NextMoment.TheVariants.{At, Never}
 
 -- A message is under way; it is, on that bus.
 abbrev pub is_under_way : Phase → Bool
@@ -73,8 +72,12 @@ abbrev pub is_over : Message → ℕ → Bool
 is_over m t = is_late m t || is_overdue m t
 
 -- "a bus on which the terminal is sending (due time D up to, not including, D + 200 times the words sent)"
-unfoldable pub is_sending : Sending → ℕ → ℕ → Bool
-is_sending s bus t = s.on && eqb s.bus bus && leb s.from.0 t && ltb t (s.from.0 + word_ticks * s.words)
+unfoldable pub is_sent : Sending → ℕ → ℕ → Bool
+is_sent s bus t = eqb s.bus bus && leb s.from.0 t && ltb t (s.from.0 + word_ticks * s.words)
+
+unfoldable pub is_sending : Option Sending → ℕ → ℕ → Bool
+is_sending None bus t = false
+is_sending (Some s) bus t = is_sent s bus t
 
 -- "its next word: valid, data sync, 195 to 205 after the one before"
 unfoldable pub is_next_data : Message → WordRecord → Bool
@@ -117,12 +120,12 @@ abbrev pub earlier_of : ℕ → ℕ → ℕ
 earlier_of a b = cond (leb a b) a b
 
 -- while a word is awaited
-abbrev pub awaited_moment : Phase → Message → NextMoment
-awaited_moment Idle m = Never
-awaited_moment First m = At (record { 0 = late_moment m })
-awaited_moment (Pledged address) m = At (record { 0 = overdue_moment m })
-awaited_moment Confirmed m = At (record { 0 = earlier_of (late_moment m) (overdue_moment m) })
-awaited_moment Data m = At (record { 0 = late_moment m })
+abbrev pub awaited_moment : Phase → Message → Option Moment
+awaited_moment Idle m = None
+awaited_moment First m = Some (record { 0 = late_moment m })
+awaited_moment (Pledged address) m = Some (record { 0 = overdue_moment m })
+awaited_moment Confirmed m = Some (record { 0 = earlier_of (late_moment m) (overdue_moment m) })
+awaited_moment Data m = Some (record { 0 = late_moment m })
 
-unfoldable pub next_moment_of : Message → NextMoment
-next_moment_of m = cond (is_whole m) (At (record { 0 = plus_of m.last.0 due_distance })) (awaited_moment m.phase m)
+unfoldable pub next_moment_of : Message → Option Moment
+next_moment_of m = cond (is_whole m) (Some (record { 0 = plus_of m.last.0 due_distance })) (awaited_moment m.phase m)

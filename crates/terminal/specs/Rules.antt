@@ -1,5 +1,5 @@
 -- Document 01, "The terminal": "At an event of time t, in this order", rules 1 to 6. Assumes nothing.
-use Rattle.std.specs.Prelude.{ℕ, ◌+◌, Bool, true, false, not, cond, ◌&&◌, List, eqb, replicate}
+use Rattle.std.specs.Prelude.{ℕ, ◌+◌, Bool, true, false, not, cond, ◌&&◌, List, eqb, replicate, Option, Some, None}
 use Rattle.words.specs.Words.{spacing_most, spacing_of, address_of, code_of, is_transmit, is_mode, is_broadcast, status_of, with_flag}
 use Rattle.words.specs.declared.times.Spacing.{Spacing}
 use Rattle.words.specs.declared.times.Spacing.TheVariants as spacing
@@ -12,7 +12,7 @@ use Rattle.terminal.specs.Settling.{other_bus, settled_status, reply_of, no_answ
 use Rattle.terminal.specs.Effects.{held_after}
 use Rattle.terminal.specs.declared.states.Own.{Own}
 use Rattle.terminal.specs.declared.states.SpacingFault.{SpacingFault}
-use Rattle.terminal.specs.declared.states.SpacingFault.TheVariants.{None, Overlapping, Separated}
+use Rattle.terminal.specs.declared.states.SpacingFault.TheVariants.{Overlapping, Separated}
 use Rattle.terminal.specs.declared.states.Held.{Held}
 use Rattle.terminal.specs.declared.states.Phase.{Phase}
 use Rattle.terminal.specs.declared.states.Phase.TheVariants.{Idle, First, Pledged, Confirmed, Data}
@@ -31,7 +31,7 @@ abbrev pub reply_now : State → List ℕ → Reply
 reply_now s transmit = reply_of s s.message.command.0 transmit
 
 -- the answer that it carries, the receive table after it, the state after it
-unfoldable pub rule1_answer : State → ℕ → List ℕ → Answer
+unfoldable pub rule1_answer : State → ℕ → List ℕ → Option Answer
 rule1_answer s t transmit = cond (is_due s.message t) (answer_of s (status_now s) (reply_now s transmit)) no_answer
 
 unfoldable pub rule1_receive : State → ℕ → List ℕ → List ℕ
@@ -53,19 +53,19 @@ abbrev pub marked_of : Own → Held → ℕ → Held
 marked_of own h word = cond (is_exempt own word) h (with_status h (with_flag MessageError h.status.0))
 
 -- "The terminal keeps the kind of its last spacing fault" (02 i): a fault of another cause leaves the kind.
-abbrev pub kept_by : Held → SpacingFault → Held
+abbrev pub kept_by : Held → Option SpacingFault → Held
 kept_by h None = h
-kept_by h Overlapping = with_spacing h true false
-kept_by h Separated = with_spacing h false true
+kept_by h (Some Overlapping) = with_spacing h true false
+kept_by h (Some Separated) = with_spacing h false true
 
 -- Its mark, its kind, and no message.
-unfoldable pub faulty_of : State → SpacingFault → State
+unfoldable pub faulty_of : State → Option SpacingFault → State
 faulty_of s fault = with_message (with_held s (kept_by (marked_of s.setup.own s.held s.message.command.0) fault)) no_message
 
 -- The fault of rule 2 is a spacing fault, whatever event shows it: "separated (above 205)" (02 i; DECISIONS 73). That of the other limit is none, and
 -- counts where that limit was passed first: the message was overdue when it was not yet late (DECISIONS 78).
-unfoldable pub time_fault : Message → SpacingFault
-time_fault m = cond (awaits_data m && not (is_overdue m (m.last.0 + spacing_most))) Separated None
+unfoldable pub time_fault : Message → Option SpacingFault
+time_fault m = cond (awaits_data m && not (is_overdue m (m.last.0 + spacing_most))) (Some Separated) None
 
 unfoldable pub rule2 : State → ℕ → State
 rule2 s t = cond (is_over s.message t) (faulty_of s (time_fault s.message)) s
@@ -118,14 +118,14 @@ unfoldable pub moved_of : Message → Phase → WordRecord → Message
 moved_of m phase r = at_phase m phase r.time
 
 -- "overlapping (below 195), back to back, or separated (above 205)" (02 i): which of these is a spacing fault
-abbrev pub fault_by : Spacing → SpacingFault
-fault_by (spacing.Overlapping distance) = Overlapping
+abbrev pub fault_by : Spacing → Option SpacingFault
+fault_by (spacing.Overlapping distance) = Some Overlapping
 fault_by (spacing.BackToBack distance) = None
-fault_by (spacing.Separated distance) = Separated
+fault_by (spacing.Separated distance) = Some Separated
 
 -- The spacing fault of a record that is not the next word. While a data word is awaited spacing is asked before validity and sync, also of what comes in
 -- the place of a second command word; it is not asked when all words had come, nor while a status is awaited (DECISIONS 74).
-unfoldable pub fault_in : Message → WordRecord → SpacingFault
+unfoldable pub fault_in : Message → WordRecord → Option SpacingFault
 fault_in m r = cond (awaits_data m) (fault_by (spacing_of m.last.0 r.time.0)) None
 
 unfoldable pub next_data : State → WordRecord → State

@@ -1,5 +1,5 @@
 -- Document 01, "The terminal": "Settling: ..", the answer and its sending. Assumes nothing.
-use Rattle.std.specs.Prelude.{ℕ, ◌+◌, ◌*◌, Bool, true, false, not, cond, ◌&&◌, ◌||◌, List, eqb, get_or, set, drop, replicate}
+use Rattle.std.specs.Prelude.{ℕ, ◌+◌, ◌*◌, Bool, false, not, cond, ◌&&◌, ◌||◌, List, eqb, get_or, set, drop, replicate, Option, Some, None}
 use Rattle.std.proofs.Math.Seq.{paste}
 use Rattle.words.specs.Words.{subaddress_of, code_of, words_of, is_transmit, is_mode, is_broadcast, with_flag, due_distance}
 use Rattle.words.specs.declared.statuses.Flag.{Flag}
@@ -81,23 +81,22 @@ stored_of s receive =
 unfoldable pub is_withheld : State → Bool
 is_withheld s = is_broadcast s.message.command.0 || is_shut s.held s.message.bus
 
-abbrev pub no_answer : Answer
-no_answer = record { given = false; bus = 0; due = record { 0 = 0 }; status = record { 0 = 0 }; count = 0; words = replicate 32 0 }
+abbrev pub no_answer : Option Answer
+no_answer = None
 
-unfoldable pub answer_of : State → ℕ → Reply → Answer
+unfoldable pub answer_of : State → ℕ → Reply → Option Answer
 answer_of s status reply =
     cond (is_withheld s) no_answer
-    (record {
-      given = true;
+    (Some (record {
       bus = s.message.bus;
       due = record { 0 = s.message.last.0 + due_distance };
       status = record { 0 = status };
       count = reply.count;
       words = reply.words;
-    })
+    }))
 
 -- The sending of it, with that number of data words: "D + 200 times the words sent", the status word among them.
-unfoldable pub sending_of : State → ℕ → Sending
+unfoldable pub sending_of : State → ℕ → Option Sending
 sending_of s count =
     cond (is_withheld s) no_sending
-    (record { on = true; bus = s.message.bus; from = record { 0 = s.message.last.0 + due_distance }; words = count + 1 })
+    (Some (record { bus = s.message.bus; from = record { 0 = s.message.last.0 + due_distance }; words = count + 1 }))

@@ -1,6 +1,6 @@
 -- Document 01, "The terminal": the state, and what fresh means. A set-up, what the host sets, what is held, a message and a state are written out
 -- whole here and nowhere else; all others say what they change of one. Assumes nothing.
-use Rattle.std.specs.Prelude.{ℕ, ◌+◌, Bool, true, false, cond, List, [], ◌∷◌, set, replicate}
+use Rattle.std.specs.Prelude.{ℕ, ◌+◌, Bool, false, cond, List, [], ◌∷◌, set, replicate, Option, Some, None}
 use Rattle.words.specs.Words.{status_of}
 use Rattle.words.specs.declared.commands.CommandWord.{CommandWord}
 use Rattle.words.specs.declared.statuses.StatusWord.{StatusWord}
@@ -10,15 +10,13 @@ use Rattle.terminal.specs.declared.states.Own.{Own}
 use Rattle.terminal.specs.declared.states.Setup.{Setup}
 use Rattle.terminal.specs.declared.states.Host.{Host}
 use Rattle.terminal.specs.declared.states.SpacingFault.{SpacingFault}
-use Rattle.terminal.specs.declared.states.SpacingFault.TheVariants.{None, Overlapping, Separated}
+use Rattle.terminal.specs.declared.states.SpacingFault.TheVariants.{Overlapping, Separated}
 use Rattle.terminal.specs.declared.states.Held.{Held}
 use Rattle.terminal.specs.declared.states.Phase.{Phase}
 use Rattle.terminal.specs.declared.states.Phase.TheVariants.{Idle}
 use Rattle.terminal.specs.declared.states.Message.{Message}
 use Rattle.terminal.specs.declared.states.Sending.{Sending}
 use Rattle.terminal.specs.declared.states.Terminal.{Terminal}
-use Rattle.terminal.specs.declared.messages.NextMoment.{NextMoment}
-use Rattle.terminal.specs.declared.messages.NextMoment.TheVariants.{At, Never}
 
 -- ---- what set-up gives
 
@@ -99,8 +97,8 @@ abbrev pub with_spacing : Held → Bool → Bool → Held
 with_spacing h overlapping separated = held_of h.status h.command h.syncword h.selftest h.inhibit h.shut overlapping separated
 
 -- "the kind of its last spacing fault .. for the host to read" (02 i)
-unfoldable pub spacing_in : Held → SpacingFault
-spacing_in h = cond h.overlapping Overlapping (cond h.separated Separated None)
+unfoldable pub spacing_in : Held → Option SpacingFault
+spacing_in h = cond h.overlapping (Some Overlapping) (cond h.separated (Some Separated) None)
 
 -- ---- the message under way: what it awaits, its bus, its command and the time of that, the time of its last word, its data words so far and their
 -- number
@@ -124,23 +122,13 @@ with_word m word = message_of m.phase m.bus m.command m.start m.last (m.got + 1)
 -- ---- the answer that is being sent
 
 -- "no sending"
-abbrev pub no_sending : Sending
-no_sending = record { from = record { 0 = 0 }; words = 0; bus = 0; on = false }
-
--- ---- the next moment as it is kept: the moment, 0 where there is none, and whether there is one (02 e; DECISIONS 80)
-
-abbrev pub stored_moment : NextMoment → Moment
-stored_moment (At moment) = moment
-stored_moment Never = record { 0 = 0 }
-
-abbrev pub is_timed : NextMoment → Bool
-is_timed (At moment) = true
-is_timed Never = false
+abbrev pub no_sending : Option Sending
+no_sending = None
 
 -- ---- a state
 
-abbrev pub state_of : Setup → Host → Held → Message → Sending → ℕ → Moment → Bool → Terminal
-state_of setup host held message sending time next timed = record {
+abbrev pub state_of : Setup → Host → Held → Message → Option Sending → ℕ → Option Moment → Terminal
+state_of setup host held message sending time next = record {
   message = message;
   sending = sending;
   time = record { 0 = time };
@@ -148,38 +136,36 @@ state_of setup host held message sending time next timed = record {
   setup = setup;
   host = host;
   held = held;
-  timed = timed;
 }
 
 -- "Fresh: .., no message, no sending but that of code 8's own answer. Set-up gives it with host flags off, vector and BIT words 0, last time 0." With no
 -- message there is no next moment (02 e).
 abbrev pub fresh_of : Setup → Terminal
-fresh_of setup = state_of setup fresh_host (fresh_held setup.own) no_message no_sending 0 (record { 0 = 0 }) false
+fresh_of setup = state_of setup fresh_host (fresh_held setup.own) no_message no_sending 0 None
 
 -- "Host calls set the flags (service request, busy, subsystem, terminal fault), vector and BIT words, .."
 abbrev pub with_host : Terminal → Host → Terminal
-with_host s host = state_of s.setup host s.held s.message s.sending s.time.0 s.next s.timed
+with_host s host = state_of s.setup host s.held s.message s.sending s.time.0 s.next
 
 abbrev pub with_held : Terminal → Held → Terminal
-with_held s held = state_of s.setup s.host held s.message s.sending s.time.0 s.next s.timed
+with_held s held = state_of s.setup s.host held s.message s.sending s.time.0 s.next
 
 -- With another next moment alone: only Works.antt, which follows the code's own fields, asks for it.
-abbrev pub with_next : Terminal → Moment → Bool → Terminal
-with_next s next timed = state_of s.setup s.host s.held s.message s.sending s.time.0 next timed
+abbrev pub with_next : Terminal → Option Moment → Terminal
+with_next s next = state_of s.setup s.host s.held s.message s.sending s.time.0 next
 
 -- "Store it in the terminal's state and have every event, host call, restart and refusal leave it equal to what document 01 would work out." (02 e): the
 -- rules and calls that change the message do it by this, and set it with the message; those that leave the message leave it.
 abbrev pub with_message : Terminal → Message → Terminal
-with_message s message =
-    state_of s.setup s.host s.held message s.sending s.time.0 (stored_moment (next_moment_of message)) (is_timed (next_moment_of message))
+with_message s message = state_of s.setup s.host s.held message s.sending s.time.0 (next_moment_of message)
 
-abbrev pub with_sending : Terminal → Sending → Terminal
-with_sending s sending = state_of s.setup s.host s.held s.message sending s.time.0 s.next s.timed
+abbrev pub with_sending : Terminal → Option Sending → Terminal
+with_sending s sending = state_of s.setup s.host s.held s.message sending s.time.0 s.next
 
 -- The state at a time.
 abbrev pub at_time : Terminal → ℕ → Terminal
-at_time s t = state_of s.setup s.host s.held s.message s.sending t s.next s.timed
+at_time s t = state_of s.setup s.host s.held s.message s.sending t s.next
 
 -- "The host may ask for the next moment": what is kept.
-unfoldable pub moment_in : Terminal → NextMoment
-moment_in s = cond s.timed (At s.next) Never
+unfoldable pub moment_in : Terminal → Option Moment
+moment_in s = s.next

@@ -1,10 +1,10 @@
 -- How the code goes about rules 1 to 6: what they change of a state, what a record is before anything changes, and what is changed then. No sentence
 -- of document 01, and nobody need believe anything of it: no public promise names it, and proofs/ (Works, Meanings, Awaited, Happenings) shows
 -- that it comes to what Rules.antt and Events.antt say. Assumes nothing.
-use Rattle.std.specs.Prelude.{ℕ, ◌-◌, Bool, true, false, cond, ◌&&◌, leb, get_or, replicate}
+use Rattle.std.specs.Prelude.{ℕ, ◌-◌, Bool, true, false, cond, ◌&&◌, leb, get_or, replicate, Option}
 use Rattle.words.specs.Words.{address_of, awaited_of}
 use Rattle.records.specs.declared.forms.WordRecord.{WordRecord}
-use Rattle.terminal.specs.States.{setup_of, stored_moment, is_timed, fresh_of, with_held, with_next, with_message, with_sending}
+use Rattle.terminal.specs.States.{setup_of, fresh_of, with_held, with_next, with_message, with_sending}
 use Rattle.terminal.specs.Commands.{is_own}
 use Rattle.terminal.specs.Messages.{is_on, awaits_data, is_sending, is_next_data, is_second, is_status_from, next_moment_of}
 use Rattle.terminal.specs.Settling.{other_bus}
@@ -27,19 +27,13 @@ use Rattle.terminal.specs.declared.events.Told.{Told}
 
 -- The work of a state; the state with other work; the work of a message, with its next moment; the work with another message.
 abbrev pub work_of : State → Work
-work_of s = record { message = s.message; sending = s.sending; next = s.next; held = s.held; timed = s.timed }
+work_of s = record { message = s.message; sending = s.sending; next = s.next; held = s.held }
 
 abbrev pub with_work : State → Work → State
-with_work s w = with_next (with_sending (with_message (with_held s w.held) w.message) w.sending) w.next w.timed
+with_work s w = with_next (with_sending (with_message (with_held s w.held) w.message) w.sending) w.next
 
-abbrev pub built_of : Message → Sending → Held → Work
-built_of message sending held = record {
-  message = message;
-  sending = sending;
-  next = stored_moment (next_moment_of message);
-  held = held;
-  timed = is_timed (next_moment_of message);
-}
+abbrev pub built_of : Message → Option Sending → Held → Work
+built_of message sending held = record { message = message; sending = sending; next = next_moment_of message; held = held }
 
 abbrev pub message_in : Work → Message → Work
 message_in w message = built_of message w.sending w.held
@@ -62,14 +56,14 @@ told_of (Word r) = record { heard = r; mark = false }
 -- ---- what a record is
 
 unfoldable pub data_meaning : Message → WordRecord → Meaning
-data_meaning m r = cond (awaits_data m && is_next_data m r) DataWord (Faulty (fault_in m r))
+data_meaning m r = cond (awaits_data m && is_next_data m r) DataWord Faulty
 
 unfoldable pub word_meaning : Phase → Own → Message → WordRecord → Meaning
 word_meaning Idle own m r = Nothing
 word_meaning Data own m r = data_meaning m r
 word_meaning Confirmed own m r = data_meaning m r
 word_meaning First own m r = cond (is_second own m r) SecondCommand (data_meaning m r)
-word_meaning (Pledged address) own m r = cond (is_status_from address r) Status (Faulty (fault_in m r))
+word_meaning (Pledged address) own m r = cond (is_status_from address r) Status Faulty
 
 unfoldable pub meaning_of : Own → Work → WordRecord → Meaning
 meaning_of own w r =
@@ -88,7 +82,7 @@ is_beginning Begins = true
 is_beginning SecondCommand = false
 is_beginning Status = false
 is_beginning DataWord = false
-is_beginning (Faulty fault) = false
+is_beginning Faulty = false
 is_beginning Nothing = false
 
 unfoldable pub cut_by : Work → WordRecord → Meaning → Bool
@@ -100,5 +94,5 @@ changed_of own w r Begins = work_of (rule4 (bare_of own w) r)
 changed_of own w r SecondCommand = message_in w (moved_of w.message (Pledged (address_of r.word)) r)
 changed_of own w r Status = message_in w (moved_of w.message Confirmed r)
 changed_of own w r DataWord = message_in w (staged_of w.message r)
-changed_of own w r (Faulty fault) = work_of (faulty_of (bare_of own w) fault)
+changed_of own w r Faulty = work_of (faulty_of (bare_of own w) (fault_in w.message r))
 changed_of own w r Nothing = w

@@ -3,7 +3,7 @@
 ghost use Rattle.std.specs.Prelude.{◌≡◌, ◌+◌, ◌^◌, ◌<◌, length};
 ghost use Rattle.words.specs.Words.{due_distance};
 ghost use Rattle.terminal.specs.Commands.{is_legal};
-ghost use Rattle.terminal.specs.Settling.{stored_of, with_if, settled_status, no_words, one_word, table_words, mode_words, legal_reply, reply_of, stores_data, is_withheld, no_answer, answer_of, sending_of};
+ghost use Rattle.terminal.specs.Settling.{stored_of, with_if, settled_status, no_words, one_word, table_words, mode_words, legal_reply, reply_of, stores_data, is_withheld, answer_of, sending_of};
 ghost use Rattle.terminal.specs.Rules.{status_now, reply_now, settled_of};
 ghost use Rattle.terminal.specs.Works.{work_of};
 
@@ -15,7 +15,7 @@ use crate::states::{Message, Sending, Terminal, Work};
 use crate::tables::{SUBADDRESS_WORDS, fetch, is_shut, store};
 use words::{CommandWord, Flag, Moment, StatusWord};
 
-// What an event carries: "(bus, due time, status, number of data words, words)", the words past the number 0; or none.
+// What an event carries: "(bus, due time, status, number of data words, words)", the words past the number 0.
 #[derive(Clone, Copy)]
 pub struct Answer {
     pub due: Moment,
@@ -23,7 +23,6 @@ pub struct Answer {
     pub status: StatusWord,
     pub count: u16,
     pub bus: u8,
-    pub given: bool,
 }
 
 // The data words of an answer, those past the number 0.
@@ -31,22 +30,6 @@ pub struct Answer {
 pub struct Reply {
     pub words: [u16; 32],
     pub count: u16,
-}
-
-impl Answer {
-    // No answer.
-    pub(crate) fn none() -> Answer
-        ensures answer { result ≡ no_answer }
-    {
-        Answer {
-            given: false,
-            bus: 0,
-            due: Moment(0),
-            status: StatusWord(0),
-            count: 0,
-            words: [0; 32],
-        }
-    }
 }
 
 impl Reply {
@@ -168,43 +151,41 @@ impl Terminal {
     }
 
     // Gives the answer with that status and these words, or none where it is withheld.
-    fn answer(self, status: StatusWord, reply: Reply) -> Answer
+    fn answer(self, status: StatusWord, reply: Reply) -> Option<Answer>
         requires { self.message.last.0 + due_distance < 2 ^ 64 }
         ensures answer { result ≡ answer_of self status.0 reply }
     {
         if self.is_withheld() {
-            return Answer::none();
+            return None;
         }
         let message = self.message;
         let due = message.last.plus(Self::DUE_DISTANCE);
         let words = reply.words;
-        Answer {
-            given: true,
-            bus: message.bus,
+        Some(Answer {
             due,
+            words,
             status,
             count: reply.count,
-            words,
-        }
+            bus: message.bus,
+        })
     }
 
-    // Gives the sending of that answer.
-    fn sending(self, count: u16) -> Sending
+    // Gives the sending of that answer, or none where it is withheld.
+    fn sending(self, count: u16) -> Option<Sending>
         requires due_distance_bound { self.message.last.0 + due_distance < 2 ^ 64 }
         requires count_bound { count < 65535 }
         ensures sending { result ≡ sending_of self count }
     {
         if self.is_withheld() {
-            return Sending::none();
+            return None;
         }
         let message = self.message;
         let from = message.last.plus(Self::DUE_DISTANCE);
-        Sending {
-            on: true,
-            bus: message.bus,
+        Some(Sending {
             from,
             words: count + 1,
-        }
+            bus: message.bus,
+        })
     }
 
     // Stores the message's data words where they are to be stored.
@@ -242,9 +223,8 @@ impl Terminal {
         let work = Work {
             message,
             sending,
-            next: Moment(0),
+            next: None,
             held,
-            timed: false,
         };
         Passed { work, answer }
     }

@@ -4,10 +4,9 @@ ghost use Rattle.terminal.specs.Settling.{is_shut};
 ghost use Rattle.terminal.specs.States.{with_service, with_busy, with_subsystem, with_terminal_fault, with_vector_word, with_bit_word, with_host, spacing_in, moment_in};
 ghost use Rattle.terminal.specs.Events.{selftest_cleared, restarted_of};
 
-use crate::messages::NextMoment;
-use crate::states::{Held, Message, Sending, SpacingFault, Terminal};
+use crate::states::{Held, Message, SpacingFault, Terminal};
 use crate::tables::is_shut;
-use words::{CommandWord, StatusWord};
+use words::{CommandWord, Moment, StatusWord};
 
 impl Terminal {
     // Gives the terminal with the host's service request flag on or off.
@@ -87,13 +86,11 @@ impl Terminal {
     {
         let held = Held::fresh(self.setup.own);
         let message = Message::none();
-        let sending = Sending::none();
         let mut after = self;
         after.held = held;
         after.message = message;
-        after.sending = sending;
-        after.next.0 = 0;
-        after.timed = false;
+        after.sending = None;
+        after.next = None;
         after
     }
 
@@ -148,28 +145,24 @@ impl Terminal {
 
     // Gives the kind of the last spacing fault, or none.
     // Tables: none. Refusals: none.
-    pub fn last_spacing_fault(self) -> SpacingFault
+    pub fn last_spacing_fault(self) -> Option<SpacingFault>
         ensures kind { result ≡ spacing_in self.held }
     {
         if self.held.overlapping {
-            return SpacingFault::Overlapping;
+            return Some(SpacingFault::Overlapping);
         }
         if self.held.separated {
-            return SpacingFault::Separated;
+            return Some(SpacingFault::Separated);
         }
-        SpacingFault::None
+        None
     }
 
-    // Gives the next moment at which time alone matters, as it is kept: after any calls that of the message (`kept_moment` of `history`). It may differ after
+    // Gives the next moment at which time alone matters, or none, as it is kept: after any calls that of the message (`kept_moment` of `history`). It may differ after
     // every event that is not refused and after a restart.
     // Tables: none. Refusals: none.
-    pub fn next_moment(self) -> NextMoment
+    pub fn next_moment(self) -> Option<Moment>
         ensures next { result ≡ moment_in self }
     {
-        let moment = self.next;
-        if self.timed {
-            return NextMoment::At(moment);
-        }
-        NextMoment::Never
+        self.next
     }
 }

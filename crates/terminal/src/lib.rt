@@ -15,6 +15,5 @@ mod tables;
 
 pub use answers::Answer;
 pub use events::{Event, Happened};
-pub use messages::NextMoment;
-pub use setups::{SetUp, set_up};
+pub use setups::{RefusedSetUp, set_up};
 pub use states::{Held, Host, Message, Own, Phase, Sending, Setup, SpacingFault, Terminal};

@@ -2,7 +2,7 @@
 // specs/Messages.antt. Refusals: none.
 ghost use Rattle.std.specs.Prelude.{◌≡◌};
 ghost use Rattle.words.specs.Words.{is_spaced};
-ghost use Rattle.terminal.specs.Messages.{is_under_way, is_on, is_counting, awaits_data, is_whole, is_due, is_late, awaits_first, is_overdue, is_over, is_sending, is_next_data, is_second, is_status_from, earlier_of, next_moment_of};
+ghost use Rattle.terminal.specs.Messages.{is_under_way, is_on, is_counting, awaits_data, is_whole, is_due, is_late, awaits_first, is_overdue, is_over, is_sent, is_sending, is_next_data, is_second, is_status_from, earlier_of, next_moment_of};
 
 use crate::commands::is_valid_record;
 use crate::states::{Message, Own, Phase, Sending, Terminal};
@@ -148,26 +148,26 @@ pub(crate) fn is_status_from(address: u16, heard: WordRecord) -> bool
 }
 
 impl Sending {
-    // Says whether the terminal is sending on that bus at that time.
-    pub(crate) fn is_sending(self, bus: u8, time: Moment) -> bool
-        ensures answer { result ≡ is_sending self bus time.0 }
+    // Says whether it is sent on that bus at that time.
+    fn is_sent(self, bus: u8, time: Moment) -> bool
+        ensures answer { result ≡ is_sent self bus time.0 }
     {
         let past = time.since(self.from);
-        self.on
-            & (self.bus == bus)
-            & (self.from.0 <= time.0)
-            & (past.0 < Ticks::WORD.0 * (self.words as u64))
+        (self.bus == bus) & (self.from.0 <= time.0) & (past.0 < Ticks::WORD.0 * (self.words as u64))
+    }
+}
+
+// Says whether the terminal is sending on that bus at that time.
+pub(crate) fn is_sending(sending: Option<Sending>, bus: u8, time: Moment) -> bool
+    ensures answer { result ≡ is_sending sending bus time.0 }
+{
+    match sending {
+        Some(answer) => answer.is_sent(bus, time),
+        None => false,
     }
 }
 
 // ---- the next moment
-
-// "the next moment at which time alone matters: .., or none"
-#[derive(Clone, Copy)]
-pub enum NextMoment {
-    At(Moment),
-    Never,
-}
 
 // "last word plus 206 while a data word is awaited"
 const LATE_DISTANCE: Ticks = Ticks(206);
@@ -186,21 +186,21 @@ fn earlier(one: Moment, other: Moment) -> Moment
 
 impl Message {
     // Works out the next moment at which time alone matters to the message.
-    pub(crate) fn next_moment(self) -> NextMoment
+    pub(crate) fn next_moment(self) -> Option<Moment>
         ensures next { result ≡ next_moment_of self }
     {
         let phase = self.phase;
         let late = self.last.plus(LATE_DISTANCE);
         let overdue = self.start.plus(OVERDUE_DISTANCE);
         if self.is_whole() {
-            return NextMoment::At(self.last.plus(Terminal::DUE_DISTANCE));
+            return Some(self.last.plus(Terminal::DUE_DISTANCE));
         }
         match phase {
-            Phase::Idle => NextMoment::Never,
-            Phase::First => NextMoment::At(late),
-            Phase::Pledged(_) => NextMoment::At(overdue),
-            Phase::Confirmed => NextMoment::At(earlier(late, overdue)),
-            Phase::Data => NextMoment::At(late),
+            Phase::Idle => None,
+            Phase::First => Some(late),
+            Phase::Pledged(_) => Some(overdue),
+            Phase::Confirmed => Some(earlier(late, overdue)),
+            Phase::Data => Some(late),
         }
     }
 }

@@ -10,16 +10,16 @@ ghost use Rattle.terminal.specs.Works.{work_of, bare_of, data_meaning, word_mean
 use crate::answers::Answer;
 use crate::commands::{TRANSMIT_LAST_COMMAND, is_exempt, is_own};
 use crate::effects::other_bus;
-use crate::messages::is_status_from;
-use crate::states::{Held, Message, Own, Phase, Sending, SpacingFault, Terminal, Work};
+use crate::messages::{is_sending, is_status_from};
+use crate::states::{Held, Message, Own, Phase, SpacingFault, Terminal, Work};
 use records::WordRecord;
 use words::{CommandWord, Flag, Moment, Spacing, StatusWord};
 
-// What rules 1 and 2 give: the work after them, and the answer that the event carries.
+// What rules 1 and 2 give: the work after them, and the answer that the event carries, if any.
 #[derive(Clone, Copy)]
 pub struct Passed {
     pub work: Work,
-    pub answer: Answer,
+    pub answer: Option<Answer>,
 }
 
 // What a record is to the terminal, in the order of rules 3 to 6.
@@ -34,8 +34,8 @@ pub enum Meaning {
     Status,
     // the next data word
     DataWord,
-    // not the next word of the message under way: a fault of that spacing or, with none, of another cause
-    Faulty(SpacingFault),
+    // not the next word of the message under way
+    Faulty,
     // any other record, and a time mark
     Nothing,
 }
@@ -52,10 +52,9 @@ impl Terminal {
         if self.message.is_due(time) {
             return self.settle(receive, transmit);
         }
-        let answer = Answer::none();
         let before = self.work();
         let work = before.rule2(self.setup.own, time);
-        Passed { work, answer }
+        Passed { work, answer: None }
     }
 }
 
@@ -74,13 +73,13 @@ impl Held {
     }
 
     // "The terminal keeps the kind of its last spacing fault": a fault of another cause leaves it.
-    fn kept(self, fault: SpacingFault) -> Held
+    fn kept(self, fault: Option<SpacingFault>) -> Held
         ensures held { result ≡ kept_by self fault }
     {
         match fault {
-            SpacingFault::None => self,
-            SpacingFault::Overlapping => self.with_spacing(true, false),
-            SpacingFault::Separated => self.with_spacing(false, true),
+            None => self,
+            Some(SpacingFault::Overlapping) => self.with_spacing(true, false),
+            Some(SpacingFault::Separated) => self.with_spacing(false, true),
         }
     }
 }
@@ -88,21 +87,21 @@ impl Held {
 impl Message {
     // Gives the spacing fault of a message whose time is over: separated, but none where the status of the other terminal came so late that the message was
     // overdue before it was late (DECISIONS 78).
-    fn time_fault(self) -> SpacingFault
+    fn time_fault(self) -> Option<SpacingFault>
         ensures fault { result ≡ time_fault self }
     {
         let waited = self.last.since(self.start);
         let before = Terminal::FIRST_WORD_DISTANCE.0 - Terminal::SPACING_MOST.0;
         if self.awaits_data() & !(self.awaits_first() & (before < waited.0)) {
-            return SpacingFault::Separated;
+            return Some(SpacingFault::Separated);
         }
-        SpacingFault::None
+        None
     }
 }
 
 impl Work {
     // "A faulty message ends at once": whatever its fault, no answer, no data stored.
-    fn faulty(self, own: Own, fault: SpacingFault) -> Work
+    fn faulty(self, own: Own, fault: Option<SpacingFault>) -> Work
         ensures work { result ≡ work_of (faulty_of (bare_of own self) fault) }
     {
         let command = self.message.command;
@@ -125,7 +124,7 @@ impl Work {
     }
 }
 
-// ---- "3. A record on a bus on which the terminal is sending .. is ignored.": `Sending::is_sending`, asked first in `meaning`.
+// ---- "3. A record on a bus on which the terminal is sending .. is ignored.": `is_sending`, asked first in `meaning`.
 
 // ---- "4. An own command replaces any message under way, and cuts a sending on the other bus; the result says so."
 impl Held {
@@ -200,7 +199,7 @@ impl Meaning {
             Meaning::SecondCommand => false,
             Meaning::Status => false,
             Meaning::DataWord => false,
-            Meaning::Faulty(_) => false,
+            Meaning::Faulty => false,
             Meaning::Nothing => false,
         }
     }
@@ -213,8 +212,7 @@ impl Work {
     {
         let held = self.held.noted(own, CommandWord(heard.word));
         let message = Message::begun(heard);
-        let sending = Sending::none();
-        Work::build(message, sending, held)
+        Work::build(message, None, held)
     }
 
     // Says whether a record with that meaning cuts a sending on the other bus.
@@ -222,35 +220,35 @@ impl Work {
         ensures answer { result ≡ cut_by self heard meaning }
     {
         let sending = self.sending;
-        meaning.is_beginning() & sending.is_sending(other_bus(heard.bus), heard.time)
+        meaning.is_beginning() & is_sending(sending, other_bus(heard.bus), heard.time)
     }
 }
 
 // ---- "5. Any other record on the bus of a message under way must be its next word .. Otherwise the message is faulty, also when all its words had
 // come."
 impl SpacingFault {
-    // Gives the fault that a spacing is.
-    fn of_spacing(spacing: Spacing) -> SpacingFault
+    // Gives the fault that a spacing is, if any.
+    fn of_spacing(spacing: Spacing) -> Option<SpacingFault>
         ensures fault { result ≡ fault_by spacing }
     {
         match spacing {
-            Spacing::Overlapping(_) => SpacingFault::Overlapping,
-            Spacing::BackToBack(_) => SpacingFault::None,
-            Spacing::Separated(_) => SpacingFault::Separated,
+            Spacing::Overlapping(_) => Some(SpacingFault::Overlapping),
+            Spacing::BackToBack(_) => None,
+            Spacing::Separated(_) => Some(SpacingFault::Separated),
         }
     }
 }
 
 impl Message {
     // Gives the spacing fault of a record that is not the next word: spacing is asked while a data word is awaited, whatever else is wrong.
-    fn spacing_fault(self, heard: WordRecord) -> SpacingFault
+    fn spacing_fault(self, heard: WordRecord) -> Option<SpacingFault>
         ensures fault { result ≡ fault_in self heard }
     {
         if self.awaits_data() {
             let last = self.last;
             return SpacingFault::of_spacing(words::spacing_between(last, heard.time));
         }
-        SpacingFault::None
+        None
     }
 
     // "its next word: valid, data sync, 195 to 205 after the one before"
@@ -260,8 +258,7 @@ impl Message {
         if self.awaits_data() & self.is_next_data(heard) {
             return Meaning::DataWord;
         }
-        let fault = self.spacing_fault(heard);
-        Meaning::Faulty(fault)
+        Meaning::Faulty
     }
 
     // "(between terminals also the words named below)"
@@ -284,7 +281,7 @@ impl Message {
                 if is_status_from(address, heard) {
                     Meaning::Status
                 } else {
-                    Meaning::Faulty(self.spacing_fault(heard))
+                    Meaning::Faulty
                 }
             }
         }
@@ -298,7 +295,7 @@ impl Work {
         ensures meaning { result ≡ meaning_of own self heard }
     {
         let message = self.message;
-        if self.sending.is_sending(heard.bus, heard.time) {
+        if is_sending(self.sending, heard.bus, heard.time) {
             return Meaning::Ignored;
         }
         if is_own(own, heard) {
@@ -329,7 +326,7 @@ impl Work {
                 let moved = message.at_phase(Phase::Data, last);
                 self.with_message(moved.with_word(heard.word))
             }
-            Meaning::Faulty(fault) => self.faulty(own, fault),
+            Meaning::Faulty => self.faulty(own, message.spacing_fault(heard)),
             Meaning::Nothing => self,
         }
     }

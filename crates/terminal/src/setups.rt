@@ -11,24 +11,24 @@ const LAST_ADDRESS: u16 = 30;
 
 const MASKS: usize = 32;
 
-// The terminal, after a refusal one that can never answer; and the refusal's number or 0.
+// A set-up that was refused: why, and a terminal that can never answer.
 #[derive(Clone, Copy)]
-pub struct SetUp {
+pub struct RefusedSetUp {
     pub terminal: Terminal,
     pub refusal: Refusal,
 }
 
 // Gives the refusal of a set-up that lends mask tables of these lengths, or none.
-fn set_up_refusal(address: u16, receive: usize, transmit: usize) -> Refusal
-    ensures refusal { result.0 ≡ set_up_refusal address receive transmit }
+fn set_up_refusal(address: u16, receive: usize, transmit: usize) -> Option<Refusal>
+    ensures refusal { result ≡ set_up_refusal address receive transmit }
 {
-    if (receive == MASKS) & (transmit == MASKS) {
-        if address <= LAST_ADDRESS {
-            return Refusal::NONE;
-        }
-        return Refusal::OWN_ADDRESS;
+    if (receive != MASKS) | (transmit != MASKS) {
+        return Some(Refusal::TableSize);
     }
-    Refusal::TABLE_SIZE
+    if address > LAST_ADDRESS {
+        return Some(Refusal::OwnAddress);
+    }
+    None
 }
 
 // Gives a copy of a table of masks.
@@ -37,32 +37,23 @@ fn masks(table: &[u32]) -> [u32; 32]
     ensures masks { result ≡ table.now }
 {
     let mut copy = [0u32; 32];
-    let mut i = 0;
-    while i < MASKS {
-        copy[i] = table[i];
-        i += 1;
-    }
+    copy.copy_from_slice(table);
     copy
 }
 
-// Gives no refusal and the fresh terminal of the address and the masks, or gives the number of the refusal and the fresh terminal of
-// address 31 with nothing legal: every own command of that one is a broadcast, and it never answers.
+// Gives the fresh terminal of the address and the masks, or with the refusal the fresh terminal of address 31 with nothing legal: every own command of
+// that one is a broadcast, and it never answers.
 // Tables: both are only read. Refusals: 1, a table is not 32 masks; 2, own address above 30.
-pub fn set_up(address: u16, receive: &[u32], transmit: &[u32]) -> SetUp
+pub fn set_up(address: u16, receive: &[u32], transmit: &[u32]) -> Result<Terminal, RefusedSetUp>
     ensures setup { result ≡ set_up_of address receive.now transmit.now }
 {
-    let refusal = set_up_refusal(address, receive.len(), transmit.len());
-    if refusal.0 == 0 {
-        let received = masks(receive);
-        let transmitted = masks(transmit);
-        let setup = Setup::build(address, received, transmitted);
+    if let Some(refusal) = set_up_refusal(address, receive.len(), transmit.len()) {
+        let setup = Setup::build(CommandWord::BROADCAST, [0; 32], [0; 32]);
         let terminal = Terminal::fresh(setup);
-        return SetUp {
-            refusal: Refusal::NONE,
-            terminal,
-        };
+        return Err(RefusedSetUp { terminal, refusal });
     }
-    let setup = Setup::build(CommandWord::BROADCAST, [0; 32], [0; 32]);
-    let terminal = Terminal::fresh(setup);
-    SetUp { refusal, terminal }
+    let received = masks(receive);
+    let transmitted = masks(transmit);
+    let setup = Setup::build(address, received, transmitted);
+    Ok(Terminal::fresh(setup))
 }

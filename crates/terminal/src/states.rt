@@ -4,10 +4,9 @@
 ghost use Rattle.std.specs.Prelude.{◌≡◌, [], ◌∷◌, ◌<◌};
 ghost use Rattle.words.specs.Words.{due_distance, spacing_least, spacing_most};
 ghost use Rattle.terminal.specs.Messages.{first_word_distance};
-ghost use Rattle.terminal.specs.States.{own_of, setup_of, fresh_host, fresh_held, with_status, with_command, with_sync_word, with_selftest, with_inhibit, with_shut, with_spacing, message_of, no_message, at_phase, with_word, no_sending, fresh_of};
+ghost use Rattle.terminal.specs.States.{own_of, setup_of, fresh_host, fresh_held, with_status, with_command, with_sync_word, with_selftest, with_inhibit, with_shut, with_spacing, message_of, no_message, at_phase, with_word, fresh_of};
 ghost use Rattle.terminal.specs.Works.{work_of, built_of, message_in, with_work};
 
-use crate::messages::NextMoment;
 use crate::tables::{BUSES, with_word};
 use words::{CommandWord, Moment, StatusWord, Ticks};
 
@@ -37,11 +36,9 @@ pub struct Host {
     pub defect: bool,
 }
 
-// How a word was badly spaced (02 i). Of the last spacing fault, none where there was none since the terminal was fresh; of a fault, none where its
-// cause is another.
-#[derive(Clone, Copy)]
+// How a word was badly spaced (02 i).
+#[derive(Clone, Copy, Debug, PartialEq, Eq)]
 pub enum SpacingFault {
-    None,
     // "overlapping (below 195)"
     Overlapping,
     // "separated (above 205)"
@@ -49,7 +46,8 @@ pub enum SpacingFault {
 }
 
 // What a restart makes fresh: stored status, last command, sync word, self-test request, terminal flag inhibited, for each bus whether its transmitter
-// is shut down, and of the last spacing fault whether it was overlapping or separated: two flags, since the enum would leave a hole (DECISIONS 75).
+// is shut down, and of the last spacing fault whether it was overlapping or separated: two flags, since with an `Option<SpacingFault>` an event takes half
+// as long again (DECISIONS 75).
 #[derive(Clone, Copy)]
 pub struct Held {
     pub status: StatusWord,
@@ -95,31 +93,28 @@ pub struct Sending {
     pub from: Moment,
     pub words: u16,
     pub bus: u8,
-    pub on: bool,
 }
 
-// The terminal. `next` is the next moment at which time alone matters, where `timed` says that there is one: it is set with the message, so that the host's
-// question works nothing out (02 e). Two fields, since with the enum an event is slower (DECISIONS 80).
+// The terminal. `next` is the next moment at which time alone matters, or none: it is set with the message, so that the host's question works nothing out
+// (02 e; DECISIONS 80).
 #[derive(Clone, Copy)]
 pub struct Terminal {
     pub message: Message,
-    pub sending: Sending,
+    pub sending: Option<Sending>,
     pub time: Moment,
-    pub next: Moment,
+    pub next: Option<Moment>,
     pub setup: Setup,
     pub host: Host,
     pub held: Held,
-    pub timed: bool,
 }
 
 // What the rules change of it: an event hands on this alone, and not the masks with it.
 #[derive(Clone, Copy)]
 pub struct Work {
     pub message: Message,
-    pub sending: Sending,
-    pub next: Moment,
+    pub sending: Option<Sending>,
+    pub next: Option<Moment>,
     pub held: Held,
-    pub timed: bool,
 }
 
 impl Setup {
@@ -311,41 +306,17 @@ impl Message {
     }
 }
 
-impl Sending {
-    // No answer being sent.
-    pub(crate) fn none() -> Sending
-        ensures sending { result ≡ no_sending }
-    {
-        Sending {
-            from: Moment(0),
-            words: 0,
-            bus: 0,
-            on: false,
-        }
-    }
-}
-
 impl Work {
     // The work of a message, with the next moment that it has.
-    pub(crate) fn build(message: Message, sending: Sending, held: Held) -> Work
+    pub(crate) fn build(message: Message, sending: Option<Sending>, held: Held) -> Work
         ensures work { result ≡ built_of message sending held }
     {
-        let moment = message.next_moment();
-        match moment {
-            NextMoment::At(next) => Work {
-                message,
-                sending,
-                next,
-                held,
-                timed: true,
-            },
-            NextMoment::Never => Work {
-                message,
-                sending,
-                next: Moment(0),
-                held,
-                timed: false,
-            },
+        let next = message.next_moment();
+        Work {
+            message,
+            sending,
+            next,
+            held,
         }
     }
 
@@ -389,16 +360,14 @@ impl Terminal {
         let host = Host::fresh();
         let held = Held::fresh(setup.own);
         let message = Message::none();
-        let sending = Sending::none();
         Terminal {
             message,
-            sending,
+            sending: None,
             time: Moment(0),
-            next: Moment(0),
+            next: None,
             setup,
             host,
             held,
-            timed: false,
         }
     }
 
@@ -415,7 +384,6 @@ impl Terminal {
             sending,
             next,
             held,
-            timed: self.timed,
         }
     }
 
@@ -432,7 +400,6 @@ impl Terminal {
         after.sending = sending;
         after.next = next;
         after.held = held;
-        after.timed = work.timed;
         after
     }
 }

@@ -8,4 +8,4 @@ returns-then-awaits_data-is_next_data c = record { meaning = rw (← c.awaits_da
 
 pub returns : goal.returns
 unfolding data_meaning
-returns c = record { meaning = rw (← c.awaits_data.ensures.answer, ← c.is_next_data.ensures.answer, c.if-awaits_data-is_next_data.false, c.spacing_fault-fault.ensures.fault) }
+returns c = record { meaning = rw (← c.awaits_data.ensures.answer, ← c.is_next_data.ensures.answer, c.if-awaits_data-is_next_data.false) }

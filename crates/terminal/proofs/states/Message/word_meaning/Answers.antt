@@ -31,4 +31,4 @@ returns-then-is_status_from c = record { meaning = at_phase_lem _ _ _ (Pledged _
 
 pub returns-else-is_status_from : goal.returns-else-is_status_from
 unfolding word_meaning
-returns-else-is_status_from c = record { meaning = at_phase_lem _ _ _ (Pledged _) _ c.in-Pledged.is (rw (sym c.is_status_from.ensures.answer ∙ c.if-is_status_from.false, c.spacing_fault.ensures.fault) refl) }
+returns-else-is_status_from c = record { meaning = at_phase_lem _ _ _ (Pledged _) _ c.in-Pledged.is (rw (sym c.is_status_from.ensures.answer ∙ c.if-is_status_from.false) refl) }

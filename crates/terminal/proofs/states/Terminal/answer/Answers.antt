@@ -7,7 +7,7 @@ use Rattle.terminal.proofs.states.Terminal.answer.Goals as goal
 
 pub returns-then-is_withheld : goal.returns-then-is_withheld
 unfolding answer_of
-returns-then-is_withheld c = record { answer = rw (sym c.is_withheld.ensures.answer ∙ c.if-is_withheld.true, c.none.ensures.answer) }
+returns-then-is_withheld c = record { answer = rw (sym c.is_withheld.ensures.answer ∙ c.if-is_withheld.true) }
 
 pub returns : goal.returns
 unfolding answer_of

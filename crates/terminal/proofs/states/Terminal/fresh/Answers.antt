@@ -2,4 +2,4 @@
 use Rattle.terminal.proofs.states.Terminal.fresh.Goals as goal
 
 pub returns : goal.returns
-returns c = record { terminal = rw (c.none-sending.ensures.sending, c.none-message.ensures.message, c.fresh-held.ensures.held, c.fresh-host.ensures.host) }
+returns c = record { terminal = rw (c.none-message.ensures.message, c.fresh-held.ensures.held, c.fresh-host.ensures.host) }

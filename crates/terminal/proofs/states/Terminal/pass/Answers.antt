@@ -23,6 +23,6 @@ returns c =
     let due = sym c.is_due.ensures.answer ∙ c.if-is_due.false in
     record {
       work = rw (c.rule2-work.ensures.work, c.work-before.ensures.work) (sym (passed_waiting _ _ _ due));
-      answer = rw due c.none-answer.ensures.answer;
+      answer = rw due refl;
       receive = rw due refl;
     }

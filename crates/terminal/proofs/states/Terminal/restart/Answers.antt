@@ -3,4 +3,4 @@ use Rattle.terminal.proofs.Moments.{none_never}
 use Rattle.terminal.proofs.states.Terminal.restart.Goals as goal
 
 pub returns : goal.returns
-returns c = record { terminal = rw (c.none-sending.ensures.sending, c.none-message.ensures.message, c.fresh-held.ensures.held, none_never) }
+returns c = record { terminal = rw (c.none-message.ensures.message, c.fresh-held.ensures.held, none_never) }

@@ -7,7 +7,7 @@ use Rattle.terminal.proofs.states.Terminal.sending.Goals as goal
 
 pub returns-then-is_withheld : goal.returns-then-is_withheld
 unfolding sending_of
-returns-then-is_withheld c = record { sending = rw (sym c.is_withheld.ensures.answer ∙ c.if-is_withheld.true, c.none.ensures.sending) }
+returns-then-is_withheld c = record { sending = rw (sym c.is_withheld.ensures.answer ∙ c.if-is_withheld.true) }
 
 pub returns : goal.returns
 unfolding sending_of

@@ -4,4 +4,4 @@ use Rattle.terminal.proofs.states.Work.begun.Goals as goal
 
 pub returns : goal.returns
 unfolding rule4
-returns c = record { work = rw (c.build.ensures.work, c.none-sending.ensures.sending, c.begun-message.ensures.message, c.noted-held.ensures.held) }
+returns c = record { work = rw (c.build.ensures.work, c.begun-message.ensures.message, c.noted-held.ensures.held) }

@@ -33,7 +33,7 @@ returns-in-DataWord c = record { work = at_meaning _ _ _ DataWord _ c.in-DataWor
 
 pub returns-in-Faulty : goal.returns-in-Faulty
 unfolding changed_of
-returns-in-Faulty c = record { work = at_meaning _ _ _ (Faulty _) _ c.in-Faulty.is c.faulty.ensures.work }
+returns-in-Faulty c = record { work = at_meaning _ _ _ Faulty _ c.in-Faulty.is (rw (c.faulty.ensures.work, c.spacing_fault.ensures.fault) refl) }
 
 pub returns-in-Nothing : goal.returns-in-Nothing
 unfolding changed_of
