@@ -1,9 +1,9 @@
 -- A line that is made of parts, one space apart, is read as these parts; and the parts of a line of a plan say what was written. Assumes nothing.
+use Rattle.std.specs.Prelude.{None, Some, Ok}
 use Rattle.std.proofs.Common.{◌≡◌, ℕ, ◌/◌, ◌%◌, ◌^◌, ◌<◌, ◌≤◌, Bool, true, false, cond, not, ◌&&◌, eqb, ltb, leb, List, [], ◌∷◌, ◌++◌, length, sym, refl, ap, ◌∙◌, ⊎_elim, append_assoc, append-nil, arith, length-append, le-ltb, lt-ltb, ne_eqb, le-leb, leb-true}
 use borrow.Author.Tests.{not-true}
 use Rattle.words.proofs.Truth.{and_both, passes, passed}
 use Rattle.words.specs.declared.commands.CommandWord.{CommandWord}
-use Rattle.lines.specs.declared.numbers.Number.TheVariants.{Is, None}
 use Rattle.lines.specs.Numbers.{is_digit, are_digits, spelled_after, number_after, number_read, hexadecimal_read}
 use Rattle.lines.specs.Sinks.{digit_of, word_text, decimal_in, decimal_text}
 use Rattle.lines.specs.Names.{same_text}
@@ -11,7 +11,7 @@ use Rattle.lines.proofs.Backs.{decimal_back, word_back}
 use Rattle.schedule.specs.declared.messages.Message.{Message}
 use Rattle.plans.specs.declared.entries.Entry.TheVariants.{Capacities, Capacity, Placed}
 use Rattle.plans.specs.Parts.{before_remark, is_control, has_control, before_control, tight_from, tight, split_from, parts_of}
-use Rattle.plans.specs.Entries.{capacity_text, capacities_of, capacity_of, capacity_entry, message_text, word_of, is_number, is_command, placed_of, message_with, single_of, pair_of, message_entry, parts_entry, said_of, entry_of}
+use Rattle.plans.specs.Entries.{entered, capacity_text, capacities_of, capacity_of, capacity_entry, message_text, word_of, is_number, is_command, placed_of, message_with, single_of, pair_of, message_entry, parts_entry, said_of, entry_of}
 use Rattle.plans.specs.Drafts.{lines_from}
 use Rattle.plans.specs.Texts.{line_text, message_parts}
 use Rattle.plans.specs.Theorems.{Sayable}
@@ -218,16 +218,16 @@ record Spells (text : List ℕ) : Type 0 where
   most : length text ≤ 20
   digits : are_digits text ≡ true
 
-spells : (text : List ℕ) (n : ℕ) → number_read text ≡ Is n → Spells text
+spells : (text : List ℕ) (n : ℕ) → number_read text ≡ Some n → Spells text
 unfolding number_read number_after
 spells text n = by (leb 1 (length text)) (leb (length text) 20) (are_digits text) refl refl refl
   where
     by : (a b c : Bool) → leb 1 (length text) ≡ a → leb (length text) 20 ≡ b → are_digits text ≡ c
-        → cond (a && b) (cond (c && ltb (spelled_after 0 text) (2 ^ 64)) (Is (spelled_after 0 text)) None) None ≡ Is n → Spells text
+        → cond (a && b) (cond (c && ltb (spelled_after 0 text) (2 ^ 64)) (Some (spelled_after 0 text)) None) None ≡ Some n → Spells text
     by true true true p q r e = record { some = leb-true 1 (length text) p; most = leb-true (length text) 20 q; digits = r }
-    by true true false p q r e = let z : ◌≡◌ {A = ℕ} 0 1 = cc in absurd (omega arith)
-    by true false c p q r e = let z : ◌≡◌ {A = ℕ} 0 1 = cc in absurd (omega arith)
-    by false b c p q r e = let z : ◌≡◌ {A = ℕ} 0 1 = cc in absurd (omega arith)
+    by true true false p q r e = absurd cc
+    by true false c p q r e = absurd cc
+    by false b c p q r e = absurd cc
 
 module _ (n : ℕ) (fits : n < 2 ^ 64) where
   decimal_spells : Spells (decimal_text n)
@@ -260,11 +260,11 @@ capacity_part = record { some = omega arith; inside = refl }
 
 -- ---- what the lines say
 
-pub says_all : (ticks : ℕ) → ticks < 2 ^ 64 → parts_entry (capacity_text ∷ decimal_text ticks ∷ []) ≡ Capacities ticks
+pub says_all : (ticks : ℕ) → ticks < 2 ^ 64 → parts_entry (capacity_text ∷ decimal_text ticks ∷ []) ≡ Ok (Some (Capacities ticks))
 unfolding parts_entry capacity_entry capacities_of same_text
 says_all ticks l = rw (decimal_back ticks l)
 
-pub says_one : (frame ticks : ℕ) → frame < 64 → ticks < 2 ^ 64 → parts_entry (capacity_text ∷ decimal_text frame ∷ decimal_text ticks ∷ []) ≡ Capacity frame ticks
+pub says_one : (frame ticks : ℕ) → frame < 64 → ticks < 2 ^ 64 → parts_entry (capacity_text ∷ decimal_text frame ∷ decimal_text ticks ∷ []) ≡ Ok (Some (Capacity frame ticks))
 unfolding parts_entry capacity_entry capacity_of same_text
 says_one frame ticks f l = rw (decimal_back frame (omega arith), lt-ltb frame 64 f, decimal_back ticks l)
 
@@ -278,22 +278,22 @@ word_same word l = ap (λ (n : ℕ). record { 0 = n }) {x = word.0 % 2 ^ 16} {y 
 
 module _ (commands period first : ℕ) (one two : CommandWord) (pl : period < 2 ^ 64) (fl : first < 2 ^ 64) where
   says_with : message_with commands one two (decimal_text period) (decimal_text first)
-      ≡ Placed (record { commands = commands; first = one; second = two; period = period }) first
+      ≡ Ok (Placed (record { commands = commands; first = one; second = two; period = period }) first)
   unfolding message_with placed_of
   says_with = rw (decimal_back period pl, ne_eqb (length (decimal_text first)) 0 (λ z. omega (arith, z, (decimal_part first fl).some)), decimal_back first fl)
 
   says_single : one.0 < 2 ^ 16 → period < 1000
-      → parts_entry (message_text ∷ word_text one.0 ∷ decimal_text period ∷ decimal_text first ∷ []) ≡ message_with 1 one one (decimal_text period) (decimal_text first)
+      → parts_entry (message_text ∷ word_text one.0 ∷ decimal_text period ∷ decimal_text first ∷ []) ≡ entered (message_with 1 one one (decimal_text period) (decimal_text first))
   unfolding parts_entry message_entry single_of same_text
   says_single l short = rw (period_no_command period short, word_back one.0 l, word_same one l)
 
   says_pair : one.0 < 2 ^ 16 → two.0 < 2 ^ 16
       → parts_entry (message_text ∷ word_text one.0 ∷ word_text two.0 ∷ decimal_text period ∷ decimal_text first ∷ [])
-      ≡ message_with 2 one two (decimal_text period) (decimal_text first)
+      ≡ entered (message_with 2 one two (decimal_text period) (decimal_text first))
   unfolding parts_entry message_entry pair_of same_text
   says_pair l m = rw (word_back one.0 l, word_same one l, word_back two.0 m, word_same two m)
 
-pub says_message : (message : Message) (first : ℕ) → Sayable message → first < 2 ^ 64 → parts_entry (message_parts message first) ≡ Placed message first
+pub says_message : (message : Message) (first : ℕ) → Sayable message → first < 2 ^ 64 → parts_entry (message_parts message first) ≡ Ok (Some (Placed message first))
 unfolding message_parts
 says_message message first s l =
     let fits : message.period < 2 ^ 64 = omega (arith, s.period) in
@@ -301,13 +301,13 @@ says_message message first s l =
     (λ single.
     rw single.0
     (says_single 1 message.period first message.first message.first fits l s.first s.period
-    ∙ says_with 1 message.period first message.first message.first fits l
+    ∙ ap entered (says_with 1 message.period first message.first message.first fits l)
     ∙ rw (← single.0)
-    (ap (λ (w : CommandWord). Placed (record { commands = message.commands; first = message.first; second = w; period = message.period }) first) (sym single.1))))
+    (ap (λ (w : CommandWord). Ok (Some (Placed (record { commands = message.commands; first = message.first; second = w; period = message.period }) first))) (sym single.1))))
     (λ pair.
     rw pair
     (says_pair 2 message.period first message.first message.second fits l s.first s.second
-    ∙ says_with 2 message.period first message.first message.second fits l))
+    ∙ ap entered (says_with 2 message.period first message.first message.second fits l)))
     s.commands
 
 -- ---- how long they are

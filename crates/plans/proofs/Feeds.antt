@@ -31,7 +31,7 @@ module _ (chunk : List ℕ) (at : ℕ) (draft : Draft) (gathering : Gathering) (
         ∙ sym (ap (fed_of (reading_with draft gathering true)) (drop-cons chunk at 0 l))
         ∙ so)
 
-    module _ (line : get_or chunk at 0 ≡ 10) (more : Draft) (e : more ≡ line_taken draft gathering) (bad : Bool) (eb : bad ≡ is_fault more.fault) where
+    module _ (line : get_or chunk at 0 ≡ 10) (more : Draft) (e : more ≡ line_taken draft gathering) (bad : Bool) (eb : bad ≡ is_fault more.bad) where
       ended : byte_read (reading_with draft gathering true) (get_or chunk at 0)
           ≡ cond bad (reading_with more gathering false) (reading_with more (gathering_at (one_more gathering.number)) true)
       unfolding byte_read line_ended

@@ -1,4 +1,3 @@
-pub mod Cases
 pub mod Splits
 pub mod Sayings
 pub mod Feeds

@@ -5,18 +5,19 @@ use Rattle.words.proofs.Truth.{and_both}
 use Rattle.lines.specs.Sinks.{decimal_text}
 use Rattle.schedule.specs.declared.messages.Message.{Message}
 use Rattle.schedule.specs.declared.schedules.Schedule.{Schedule}
-use Rattle.words.specs.Refusals.{refused_schedule}
-use Rattle.schedule.specs.declared.schedules.Outcome.{Outcome}
-use Rattle.schedule.specs.declared.schedules.Outcome.TheVariants.{Refused}
+use Rattle.words.specs.declared.refusals.Refusal.TheVariants as refusal
+use Rattle.schedule.specs.declared.schedules.Rejection.{Rejection}
+use Rattle.schedule.specs.declared.schedules.Rejection.TheVariants as rejection
+use Rattle.std.specs.Prelude.{Option, None, Some, Result, Ok, Err}
 use Rattle.schedule.specs.Messages.{messages_in, messages_most, empty_schedule, count_after, with_of, are_fit, is_refused}
 use Rattle.schedule.specs.Frames as frames
-use Rattle.plans.specs.declared.entries.Fault.TheVariants as fault
+use Rattle.plans.specs.declared.entries.Fault.{Fault}
 use Rattle.plans.specs.declared.entries.Entry.{Entry}
-use Rattle.plans.specs.declared.entries.Entry.TheVariants.{Nothing, Capacities, Capacity, Placed}
+use Rattle.plans.specs.declared.entries.Entry.TheVariants.{Capacities, Capacity, Placed}
 use Rattle.plans.specs.declared.drafts.Draft.{Draft}
 use Rattle.plans.specs.Parts.{before_remark, before_control, has_control, tight_from, parts_of}
 use Rattle.plans.specs.Entries.{capacity_text, parts_entry, said_of, entry_of}
-use Rattle.plans.specs.Drafts.{one_more, empty_draft, with_capacities, after_entry, is_fault, lines_from, draft_from, plan_of}
+use Rattle.plans.specs.Drafts.{one_more, empty_draft, with_capacities, with_entry, after_entry, is_fault, lines_from, draft_from, plan_of}
 use Rattle.plans.specs.Texts.{line_text, are_all, capacity_lines, capacities_text, message_parts, message_lines, plan_text}
 use Rattle.plans.specs.Theorems.{Sayable, AllSayable, AllFit, Writable, SaidBack, PlanReadBack, CheckedAgain}
 use Rattle.plans.proofs.Wholes.{draft_goes, last_line}
@@ -25,28 +26,28 @@ use Rattle.plans.proofs.Backs.{Part, AllParts, bare_text, line_is, line_says, de
 -- ---- a line more
 
 module _ (d : Draft) (number : ℕ) (rest : List ℕ) where
-  line_taken_lem : (part : List ℕ) (parts : List (List ℕ)) (entry : Entry) → Part part → AllParts parts → length (bare_text (part ∷ parts)) ≤ 64
-      → parts_entry (part ∷ parts) ≡ entry → is_fault (after_entry d entry number).fault ≡ false
+  line_taken_lem : (part : List ℕ) (parts : List (List ℕ)) (entry : Result (Option Entry) Fault) → Part part → AllParts parts → length (bare_text (part ∷ parts)) ≤ 64
+      → parts_entry (part ∷ parts) ≡ entry → is_fault (after_entry d entry number).bad ≡ false
       → draft_from d number (lines_from [] (line_text (part ∷ parts) ++ rest)) ≡ draft_from (after_entry d entry number) (one_more number) (lines_from [] rest)
   line_taken_lem part parts entry p all short e f =
       ap (draft_from d number) (line_is part parts p all rest)
       ∙ draft_goes d number (bare_text (part ∷ parts)) (lines_from [] rest) entry (line_says part parts p all short ∙ e) f
 
   -- the lines of capacities and messages are no faults
-  module _ (whole : d.fault ≡ fault.None) where
+  module _ (whole : d.bad ≡ None) where
     all_taken : (ticks : ℕ) → ticks < 2 ^ 64
         → draft_from d number (lines_from [] (line_text (capacity_text ∷ decimal_text ticks ∷ []) ++ rest))
         ≡ draft_from (with_capacities d (replicate 64 ticks)) (one_more number) (lines_from [] rest)
-    unfolding after_entry is_fault
+    unfolding with_entry after_entry is_fault
     all_taken ticks l =
-        line_taken_lem capacity_text (decimal_text ticks ∷ []) (Capacities ticks) capacity_part (decimal_part ticks l, tt) (all_short 0 ticks (omega arith) l) (says_all ticks l) (rw whole)
+        line_taken_lem capacity_text (decimal_text ticks ∷ []) (Ok (Some (Capacities ticks))) capacity_part (decimal_part ticks l, tt) (all_short 0 ticks (omega arith) l) (says_all ticks l) (rw whole)
 
     one_taken : (frame ticks : ℕ) → frame < 64 → ticks < 2 ^ 64
         → draft_from d number (lines_from [] (line_text (capacity_text ∷ decimal_text frame ∷ decimal_text ticks ∷ []) ++ rest))
         ≡ draft_from (with_capacities d (set d.capacities frame ticks)) (one_more number) (lines_from [] rest)
-    unfolding after_entry is_fault
+    unfolding with_entry after_entry is_fault
     one_taken frame ticks f l =
-        line_taken_lem capacity_text (decimal_text frame ∷ decimal_text ticks ∷ []) (Capacity frame ticks) capacity_part
+        line_taken_lem capacity_text (decimal_text frame ∷ decimal_text ticks ∷ []) (Ok (Some (Capacity frame ticks))) capacity_part
         (decimal_part frame (omega arith), (decimal_part ticks l, tt))
         (one_short frame ticks (omega arith) l)
         (says_one frame ticks f l)
@@ -54,14 +55,14 @@ module _ (d : Draft) (number : ℕ) (rest : List ℕ) where
 
     message_taken : (message : Message) (first : ℕ) → Sayable message → first < 2 ^ 64
         → draft_from d number (lines_from [] (line_text (message_parts message first) ++ rest))
-        ≡ draft_from (after_entry d (Placed message first) number) (one_more number) (lines_from [] rest)
-    unfolding parts_entry after_entry is_fault
+        ≡ draft_from (after_entry d (Ok (Some (Placed message first))) number) (one_more number) (lines_from [] rest)
+    unfolding parts_entry with_entry after_entry is_fault
     message_taken message first s l = by (message_parts message first) (message_all message first s l) (message_short message first s l) (says_message message first s l)
       where
-        by : (parts : List (List ℕ)) → AllParts parts → length (bare_text parts) ≤ 64 → parts_entry parts ≡ Placed message first
-            → draft_from d number (lines_from [] (line_text parts ++ rest)) ≡ draft_from (after_entry d (Placed message first) number) (one_more number) (lines_from [] rest)
-        by [] all short e = let z : ◌≡◌ {A = ℕ} 0 1 = cc in absurd (omega arith)
-        by (part ∷ parts) all short e = line_taken_lem part parts (Placed message first) all.0 all.1 short e (rw whole)
+        by : (parts : List (List ℕ)) → AllParts parts → length (bare_text parts) ≤ 64 → parts_entry parts ≡ (Ok (Some (Placed message first)))
+            → draft_from d number (lines_from [] (line_text parts ++ rest)) ≡ draft_from (after_entry d (Ok (Some (Placed message first))) number) (one_more number) (lines_from [] rest)
+        by [] all short e = absurd cc
+        by (part ∷ parts) all short e = line_taken_lem part parts (Ok (Some (Placed message first))) all.0 all.1 short e (rw whole)
 
 -- ---- the capacities
 
@@ -71,7 +72,7 @@ record Taken (d : Draft) (number : ℕ) (rest text capacities : List ℕ) : Type
   same : draft_from d number (lines_from [] (text ++ rest)) ≡ draft_from (with_capacities d capacities) last (lines_from [] rest)
 
 -- each in its line
-lines_taken : (capacities : List ℕ) (frame : ℕ) (d : Draft) (number : ℕ) (rest : List ℕ) → d.fault ≡ fault.None → frame + length capacities ≤ 64 → AllFit capacities
+lines_taken : (capacities : List ℕ) (frame : ℕ) (d : Draft) (number : ℕ) (rest : List ℕ) → d.bad ≡ None → frame + length capacities ≤ 64 → AllFit capacities
     → Taken d number rest (capacity_lines frame capacities) (sets d.capacities frame capacities)
 unfolding capacity_lines
 lines_taken [] frame d number rest whole l fit = record { last = number; same = refl }
@@ -100,7 +101,7 @@ first_fits [] fit = omega arith
 first_fits (ticks ∷ capacities) fit = fit.0
 
 module _ (capacities : List ℕ) (all : length capacities ≡ 64) (fit : AllFit capacities) (d : Draft) (room : length d.capacities ≡ 64) (number : ℕ) (rest : List ℕ)
-    (whole : d.fault ≡ fault.None) where
+    (whole : d.bad ≡ None) where
   filled : sets d.capacities 0 capacities ≡ capacities
   filled =
       sets-eq capacities d.capacities 0 (omega (arith, all, room))
@@ -134,31 +135,31 @@ module _ (capacities : List ℕ) (all : length capacities ≡ 64) (fit : AllFit 
 -- a plan with all of these
 unfoldable placed_all : Draft → ℕ → List frames.Placed → Draft
 placed_all d number [] = d
-placed_all d number (placed ∷ others) = placed_all (after_entry d (Placed placed.message placed.start) number) (one_more number) others
+placed_all d number (placed ∷ others) = placed_all (after_entry d (Ok (Some (Placed placed.message placed.start))) number) (one_more number) others
 
 abbrev AllPlaced : List frames.Placed → Type 0
 AllPlaced [] = Unit {0}
 AllPlaced (placed ∷ others) = Sayable placed.message × ((placed.start < 2 ^ 64) × AllPlaced others)
 
-empty_says : entry_of [] ≡ Nothing
+empty_says : entry_of [] ≡ Ok None
 unfolding said_of before_remark before_control has_control tight_from parts_of parts_entry
 empty_says = refl
 
 text_ends : (d : Draft) (number : ℕ) → draft_from d number (lines_from [] []) ≡ d
 unfolding lines_from after_entry
-text_ends d number = last_line d number [] ∙ ap (λ (entry : Entry). after_entry d entry number) empty_says
+text_ends d number = last_line d number [] ∙ ap (λ (entry : Result (Option Entry) Fault). after_entry d entry number) empty_says
 
-fault_stays : (d : Draft) (message : Message) (first number : ℕ) → (after_entry d (Placed message first) number).fault ≡ d.fault
-unfolding after_entry
+fault_stays : (d : Draft) (message : Message) (first number : ℕ) → (after_entry d (Ok (Some (Placed message first))) number).bad ≡ d.bad
+unfolding with_entry after_entry
 fault_stays d message first number = refl
 
-messages_taken : (placed : List frames.Placed) (d : Draft) (number : ℕ) → d.fault ≡ fault.None → AllPlaced placed
+messages_taken : (placed : List frames.Placed) (d : Draft) (number : ℕ) → d.bad ≡ None → AllPlaced placed
     → draft_from d number (lines_from [] (message_lines placed)) ≡ placed_all d number placed
 unfolding message_lines placed_all
 messages_taken [] d number whole all = text_ends d number
 messages_taken (placed ∷ others) d number whole all =
     message_taken d number (message_lines others) whole placed.message placed.start all.0 all.1.0
-    ∙ messages_taken others (after_entry d (Placed placed.message placed.start) number) (one_more number)
+    ∙ messages_taken others (after_entry d (Ok (Some (Placed placed.message placed.start))) number) (one_more number)
     (fault_stays d placed.message placed.start number ∙ whole)
     all.1.1
 
@@ -175,36 +176,36 @@ record Filled (d after : Draft) (placed : List frames.Placed) : Type 0 where
   starts : after.firsts ≡ sets d.firsts d.schedule.count (starts_of placed)
   capacities : after.capacities ≡ d.capacities
   unplaced : after.unplaced ≡ d.unplaced
-  whole : after.fault ≡ d.fault
+  whole : after.bad ≡ d.bad
 
 one_more_lem : (d : Draft) (message : Message) (first number : ℕ) → d.schedule.count < 64
-    → (after_entry d (Placed message first) number).schedule.count ≡ suc d.schedule.count
-unfolding after_entry with_of count_after
+    → (after_entry d (Ok (Some (Placed message first))) number).schedule.count ≡ suc d.schedule.count
+unfolding with_entry after_entry with_of count_after
 one_more_lem d message first number l = rw (le-leb d.schedule.count 64 (omega arith), add-one)
 
 -- one message more, in the tables
 module _ (d : Draft) (message : Message) (first number : ℕ) where
-  message_kept : (after_entry d (Placed message first) number).schedule.messages ≡ set d.schedule.messages d.schedule.count message
-  unfolding after_entry with_of
+  message_kept : (after_entry d (Ok (Some (Placed message first))) number).schedule.messages ≡ set d.schedule.messages d.schedule.count message
+  unfolding with_entry after_entry with_of
   message_kept = refl
 
-  start_kept : (after_entry d (Placed message first) number).firsts ≡ set d.firsts d.schedule.count first
-  unfolding after_entry
+  start_kept : (after_entry d (Ok (Some (Placed message first))) number).firsts ≡ set d.firsts d.schedule.count first
+  unfolding with_entry after_entry
   start_kept = refl
 
-  capacities_stay : (after_entry d (Placed message first) number).capacities ≡ d.capacities
-  unfolding after_entry
+  capacities_stay : (after_entry d (Ok (Some (Placed message first))) number).capacities ≡ d.capacities
+  unfolding with_entry after_entry
   capacities_stay = refl
 
-  unplaced_stays : (after_entry d (Placed message first) number).unplaced ≡ d.unplaced
-  unfolding after_entry
+  unplaced_stays : (after_entry d (Ok (Some (Placed message first))) number).unplaced ≡ d.unplaced
+  unfolding with_entry after_entry
   unplaced_stays = refl
 
 messages_filled : (placed : List frames.Placed) (d : Draft) (number : ℕ) → d.schedule.count + length placed ≤ 64 → Filled d (placed_all d number placed) placed
 unfolding placed_all
 messages_filled [] d number l = record { count = omega arith; messages = refl; starts = refl; capacities = refl; unplaced = refl; whole = refl }
 messages_filled (p ∷ others) d number l =
-    let next = after_entry d (Placed p.message p.start) number in
+    let next = after_entry d (Ok (Some (Placed p.message p.start))) number in
     let more = one_more_lem d p.message p.start number (omega (arith, l)) in
     let on = messages_filled others next (one_more number) (omega (arith, l, more)) in
     record {
@@ -269,7 +270,7 @@ module _ (capacities : List ℕ) where
   unfolding empty_draft
   begun_unplaced = refl
 
-  begun_whole : (begun capacities).fault ≡ fault.None
+  begun_whole : (begun capacities).bad ≡ None
   unfolding empty_draft
   begun_whole = refl
 
@@ -277,7 +278,7 @@ empty_room : length empty_draft.capacities ≡ 64
 unfolding empty_draft
 empty_room = refl
 
-empty_whole : empty_draft.fault ≡ fault.None
+empty_whole : empty_draft.bad ≡ None
 unfolding empty_draft
 empty_whole = refl
 
@@ -343,9 +344,9 @@ placed_front (message ∷ messages) (first ∷ firsts) =
     ap (λ (t : List frames.Placed). record { message = message; start = first } ∷ t) (placed_front messages firsts)
 
 -- what the check looks at
-judged : ℕ → List Message → List frames.Placed → List ℕ → Outcome
+judged : ℕ → List Message → List frames.Placed → List ℕ → Result Unit Rejection
 judged count messages placed capacities =
-    cond (not (leb count messages_most && are_fit messages)) (Refused (record { 0 = refused_schedule })) (frames.outcome_of placed capacities)
+    cond (not (leb count messages_most && are_fit messages)) (Err (rejection.Refused refusal.Schedule)) (frames.outcome_of placed capacities)
 
 check_looks : (schedule : Schedule) (firsts capacities : List ℕ)
     → frames.check_of schedule firsts capacities

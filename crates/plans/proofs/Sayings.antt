@@ -1,12 +1,13 @@
 -- What the parts behind the first say: one law for each number of them. Assumes nothing.
-use Rattle.std.proofs.Common.{◌≡◌, ℕ, suc, Bool, true, false, cond, eqb, List, [], ◌∷◌, length, get_or, drop, sym, refl, ◌∙◌, arith, eq-eqb, eqb-true}
+use Rattle.std.specs.Prelude.{None, Result, Ok, Err}
+use Rattle.plans.specs.declared.entries.Fault.{Fault}
+use Rattle.std.proofs.Common.{◌≡◌, ℕ, suc, Bool, true, false, cond, eqb, List, [], ◌∷◌, length, get_or, drop, sym, refl, ap, ◌∙◌, arith, eq-eqb, eqb-true}
 use borrow.Author.Tests.{eqb-false}
 use Rattle.lines.specs.Names.{same_text}
 use Rattle.plans.specs.declared.entries.Fault.TheVariants as fault
 use Rattle.plans.specs.declared.entries.Entry.{Entry}
-use Rattle.plans.specs.declared.entries.Entry.TheVariants.{Nothing, Bad}
 use Rattle.plans.specs.Parts.{parts_of, parts_behind}
-use Rattle.plans.specs.Entries.{capacity_text, capacities_of, capacity_of, capacity_entry, message_text, is_command, single_of, pair_of, message_entry, parts_entry}
+use Rattle.plans.specs.Entries.{entered, capacity_text, capacities_of, capacity_of, capacity_entry, message_text, is_command, single_of, pair_of, message_entry, parts_entry}
 use Rattle.plans.proofs.Splits.{parts_count}
 
 -- ---- of a list of parts
@@ -26,7 +27,7 @@ two_capacity (x ∷ a ∷ []) h = absurd (omega (arith, h))
 two_capacity (x ∷ a ∷ b ∷ []) h = refl
 two_capacity (x ∷ a ∷ b ∷ d ∷ rest) h = absurd (omega (arith, h))
 
-other_capacity : (parts : List (List ℕ)) → (length (drop 1 parts) ≡ 1 → ⊥) → (length (drop 1 parts) ≡ 2 → ⊥) → capacity_entry (drop 1 parts) ≡ Bad fault.CapacityParts
+other_capacity : (parts : List (List ℕ)) → (length (drop 1 parts) ≡ 1 → ⊥) → (length (drop 1 parts) ≡ 2 → ⊥) → capacity_entry (drop 1 parts) ≡ Err fault.CapacityParts
 unfolding capacity_entry
 other_capacity [] h i = refl
 other_capacity (x ∷ []) h i = refl
@@ -65,7 +66,7 @@ four_message (x ∷ a ∷ b ∷ d ∷ e ∷ []) h = refl
 four_message (x ∷ a ∷ b ∷ d ∷ e ∷ f ∷ rest) h = absurd (omega (arith, h))
 
 other_message : (parts : List (List ℕ)) → (length (drop 1 parts) ≡ 2 → ⊥) → (length (drop 1 parts) ≡ 3 → ⊥) → (length (drop 1 parts) ≡ 4 → ⊥)
-    → message_entry (drop 1 parts) ≡ Bad fault.MessageParts
+    → message_entry (drop 1 parts) ≡ Err fault.MessageParts
 unfolding message_entry
 other_message [] h i j = refl
 other_message (x ∷ []) h i j = refl
@@ -100,13 +101,13 @@ module _ (text : List ℕ) (n : ℕ) (count : n ≡ parts_behind text) where
   not_so_many : (k : ℕ) → (n ≡ k → ⊥) → length (drop 1 (parts_of text)) ≡ k → ⊥
   not_so_many k h e = h (count ∙ sym (behind_all text) ∙ e)
 
-  pub capacity_wrong : (n ≡ 1 → ⊥) → (n ≡ 2 → ⊥) → Bad fault.CapacityParts ≡ capacity_entry (drop 1 (parts_of text))
+  pub capacity_wrong : (n ≡ 1 → ⊥) → (n ≡ 2 → ⊥) → Err fault.CapacityParts ≡ capacity_entry (drop 1 (parts_of text))
   capacity_wrong h i = sym (other_capacity (parts_of text) (not_so_many 1 h) (not_so_many 2 i))
 
-  pub message_wrong : (n ≡ 2 → ⊥) → (n ≡ 3 → ⊥) → (n ≡ 4 → ⊥) → Bad fault.MessageParts ≡ message_entry (drop 1 (parts_of text))
+  pub message_wrong : (n ≡ 2 → ⊥) → (n ≡ 3 → ⊥) → (n ≡ 4 → ⊥) → Err fault.MessageParts ≡ message_entry (drop 1 (parts_of text))
   message_wrong h i j = sym (other_message (parts_of text) (not_so_many 2 h) (not_so_many 3 i) (not_so_many 4 j))
 
-  module _ (r : Entry) (p : List ℕ) (ep : p ≡ get_or (parts_of text) 1 []) where
+  module _ (r : Result Entry Fault) (p : List ℕ) (ep : p ≡ get_or (parts_of text) 1 []) where
     pub capacities_said : n ≡ 1 → r ≡ capacities_of p → r ≡ capacity_entry (drop 1 (parts_of text))
     capacities_said h e = rw (one_capacity (parts_of text) (this_many 1 h), ← ep) e
 
@@ -134,25 +135,25 @@ nothing_said : (text : List ℕ) → length text ≡ 0 → parts_of text ≡ []
 unfolding parts_of
 nothing_said text h = rw (eq-eqb (length text) 0 h)
 
-pub says_nothing_at_all : (text : List ℕ) → length text ≡ 0 → Nothing ≡ parts_entry (parts_of text)
+pub says_nothing_at_all : (text : List ℕ) → length text ≡ 0 → Ok None ≡ parts_entry (parts_of text)
 unfolding parts_entry
 says_nothing_at_all text h = rw (nothing_said text h)
 
 named : (parts : List (List ℕ)) (n : ℕ) → length parts ≡ suc n
     → parts_entry parts
-    ≡ cond (same_text (get_or parts 0 []) message_text) (message_entry (drop 1 parts))
-    (cond (same_text (get_or parts 0 []) capacity_text) (capacity_entry (drop 1 parts)) (Bad fault.Unknown))
+    ≡ cond (same_text (get_or parts 0 []) message_text) (entered (message_entry (drop 1 parts)))
+    (cond (same_text (get_or parts 0 []) capacity_text) (entered (capacity_entry (drop 1 parts))) (Err fault.Unknown))
 unfolding parts_entry
 named [] n h = absurd (omega (arith, h))
 named (x ∷ xs) n h = refl
 
 module _ (text : List ℕ) (some : length text ≡ 0 → ⊥) (name : List ℕ) (en : name ≡ get_or (parts_of text) 0 []) (b : Bool) (eb : b ≡ same_text name message_text) where
-  pub message_named : b ≡ true → (r : Entry) → r ≡ message_entry (drop 1 (parts_of text)) → r ≡ parts_entry (parts_of text)
-  message_named h r e = rw (named (parts_of text) (parts_behind text) (parts_count text some), ← en, ← eb, h) e
+  pub message_named : b ≡ true → (r : Result Entry Fault) → r ≡ message_entry (drop 1 (parts_of text)) → entered r ≡ parts_entry (parts_of text)
+  message_named h r e = rw (named (parts_of text) (parts_behind text) (parts_count text some), ← en, ← eb, h) (ap entered e)
 
   module _ (d : Bool) (ed : d ≡ same_text name capacity_text) where
-    pub capacity_named : b ≡ false → d ≡ true → (r : Entry) → r ≡ capacity_entry (drop 1 (parts_of text)) → r ≡ parts_entry (parts_of text)
-    capacity_named h i r e = rw (named (parts_of text) (parts_behind text) (parts_count text some), ← en, ← eb, h, ← ed, i) e
+    pub capacity_named : b ≡ false → d ≡ true → (r : Result Entry Fault) → r ≡ capacity_entry (drop 1 (parts_of text)) → entered r ≡ parts_entry (parts_of text)
+    capacity_named h i r e = rw (named (parts_of text) (parts_behind text) (parts_count text some), ← en, ← eb, h, ← ed, i) (ap entered e)
 
-    pub not_named : b ≡ false → d ≡ false → Bad fault.Unknown ≡ parts_entry (parts_of text)
+    pub not_named : b ≡ false → d ≡ false → Err fault.Unknown ≡ parts_entry (parts_of text)
     not_named h i = rw (named (parts_of text) (parts_behind text) (parts_count text some), ← en, ← eb, h, ← ed, i)

@@ -1,4 +1,6 @@
 -- The machine and the plan of a text: a line that is gathered says what the definition says of all its bytes, and chunks do not matter. Assumes nothing.
+use Rattle.std.specs.Prelude.{Option, Result, Err}
+use Rattle.plans.specs.declared.entries.Fault.{Fault}
 use Rattle.std.proofs.Common.{◌≡◌, ℕ, zero, suc, ◌+◌, ◌-◌, ◌<◌, ◌≤◌, Bool, true, false, cond, not, ◌&&◌, ◌||◌, eqb, ltb, leb, ◌⊎◌, List, [], ◌∷◌, ◌++◌, length, take, set, sym, refl, ap, ◌∙◌, inl, inr, ⊎_elim, append_assoc, append-nil, lt_of_not-le, add-one, arith, length-append, length-set, length-take-le, take-suc-set, le-ltb, lt-ltb, ne_eqb, eqb-true, le-leb}
 use native.Mathlib.Decide.{dec_le}
 use mathlib.Core.Logic.{dite}
@@ -6,7 +8,6 @@ use lib.ListN.{length-replicate}
 use Rattle.lines.specs.Parts.{between_of}
 use Rattle.plans.specs.declared.entries.Fault.TheVariants as fault
 use Rattle.plans.specs.declared.entries.Entry.{Entry}
-use Rattle.plans.specs.declared.entries.Entry.TheVariants.{Bad}
 use Rattle.plans.specs.declared.gatherings.Kept.{Kept}
 use Rattle.plans.specs.declared.gatherings.Gathering.{Gathering}
 use Rattle.plans.specs.declared.drafts.Draft.{Draft}
@@ -95,13 +96,13 @@ record Good (g : Gathering) : Type 0 where
   fits : g.kept.over ≡ false
   signs : g.signless ≡ false
 
-unfoldable said_from : List ℕ → Bool → List ℕ → Entry
+unfoldable said_from : List ℕ → Bool → List ℕ → Result (Option Entry) Fault
 said_from text spaced said =
     cond (ltb line_most (length (tight_from text spaced (before_control said))))
-    (Bad fault.TooLong)
-    (cond (has_control said) (Bad fault.NoSign) (parts_entry (parts_of (tight_from text spaced said))))
+    (Err fault.TooLong)
+    (cond (has_control said) (Err fault.NoSign) (parts_entry (parts_of (tight_from text spaced said))))
 
-unfoldable line_from : Gathering → List ℕ → Entry
+unfoldable line_from : Gathering → List ℕ → Result (Option Entry) Fault
 line_from g rest = cond g.remark (parts_entry (parts_of (kept_text g.kept))) (said_from (kept_text g.kept) g.spaced (before_remark rest))
 
 tight_grows : (before : List ℕ) (spaced : Bool) (bytes : List ℕ) → length before ≤ length (tight_from before spaced bytes)
@@ -119,7 +120,7 @@ said_end : (text : List ℕ) (spaced : Bool) → length text ≤ 64 → said_fro
 unfolding said_from before_control has_control tight_from
 said_end text spaced l = rw (le-ltb 64 (length text) l)
 
-too_long : (before said : List ℕ) → 64 < length before → said_from before false said ≡ Bad fault.TooLong
+too_long : (before said : List ℕ) → 64 < length before → said_from before false said ≡ Err fault.TooLong
 unfolding said_from
 too_long before said l =
     rw (lt-ltb 64 (length (tight_from before false (before_control said))) (omega (arith, tight_grows before false (before_control said))))
@@ -129,7 +130,7 @@ module _ (text : List ℕ) (spaced : Bool) (byte : ℕ) (said : List ℕ) where
   unfolding said_from before_control has_control tight_from
   said_space e = rw e
 
-  said_control : is_control byte ≡ true → length text ≤ 64 → said_from text spaced (byte ∷ said) ≡ Bad fault.NoSign
+  said_control : is_control byte ≡ true → length text ≤ 64 → said_from text spaced (byte ∷ said) ≡ Err fault.NoSign
   unfolding said_from before_control has_control tight_from
   said_control c l = rw (c, le-ltb 64 (length text) l)
 
@@ -138,7 +139,7 @@ module _ (text : List ℕ) (spaced : Bool) (byte : ℕ) (said : List ℕ) where
     unfolding said_from before_control has_control tight_from
     said_byte = rw (plain, other)
 
-    said_long : 64 < length (text ++ (apart text spaced ++ (byte ∷ []))) → said_from text spaced (byte ∷ said) ≡ Bad fault.TooLong
+    said_long : 64 < length (text ++ (apart text spaced ++ (byte ∷ []))) → said_from text spaced (byte ∷ said) ≡ Err fault.TooLong
     said_long l = said_byte ∙ too_long (text ++ (apart text spaced ++ (byte ∷ []))) said l
 
 -- ---- one byte more of the line
@@ -147,7 +148,7 @@ module _ (text : List ℕ) (spaced : Bool) (byte : ℕ) (said : List ℕ) where
 record Stops (g : Gathering) (byte : ℕ) : Type 0 where
   bad : is_bad_line (gathered g byte) ≡ true
   says : (rest : List ℕ) → line_from g (byte ∷ rest) ≡ gathered_entry (gathered g byte)
-  fails : (d : Draft) (number : ℕ) → is_fault (after_entry d (gathered_entry (gathered g byte)) number).fault ≡ true
+  fails : (d : Draft) (number : ℕ) → is_fault (after_entry d (gathered_entry (gathered g byte)) number).bad ≡ true
 
 -- It goes on.
 record Goes (g : Gathering) (byte : ℕ) : Type 0 where
@@ -156,7 +157,7 @@ record Goes (g : Gathering) (byte : ℕ) : Type 0 where
   good : Good (gathered g byte)
 
 stops_by : (g next : Gathering) (byte : ℕ) → gathered g byte ≡ next → is_bad_line next ≡ true → ((rest : List ℕ) → line_from g (byte ∷ rest) ≡ gathered_entry next)
-    → ((d : Draft) (number : ℕ) → is_fault (after_entry d (gathered_entry next) number).fault ≡ true) → Stops g byte
+    → ((d : Draft) (number : ℕ) → is_fault (after_entry d (gathered_entry next) number).bad ≡ true) → Stops g byte
 stops_by g next byte e b s f = record {
   bad = rw e b;
   says = λ rest. rw e (s rest);
@@ -171,19 +172,19 @@ goes_by g next byte e b s f = record {
   good = rw e f;
 }
 
-no_sign_fails : (g : Gathering) → g.signless ≡ true → (d : Draft) (number : ℕ) → is_fault (after_entry d (gathered_entry g) number).fault ≡ true
+no_sign_fails : (g : Gathering) → g.signless ≡ true → (d : Draft) (number : ℕ) → is_fault (after_entry d (gathered_entry g) number).bad ≡ true
 unfolding gathered_entry after_entry is_fault
 no_sign_fails g h d number = rw h
 
-too_long_fails : (g : Gathering) → g.signless ≡ false → g.kept.over ≡ true → (d : Draft) (number : ℕ) → is_fault (after_entry d (gathered_entry g) number).fault ≡ true
+too_long_fails : (g : Gathering) → g.signless ≡ false → g.kept.over ≡ true → (d : Draft) (number : ℕ) → is_fault (after_entry d (gathered_entry g) number).bad ≡ true
 unfolding gathered_entry after_entry is_fault
 too_long_fails g h i d number = rw (h, i)
 
-says_no_sign_of : (g : Gathering) → g.signless ≡ true → gathered_entry g ≡ Bad fault.NoSign
+says_no_sign_of : (g : Gathering) → g.signless ≡ true → gathered_entry g ≡ Err fault.NoSign
 unfolding gathered_entry
 says_no_sign_of g h = rw h
 
-says_too_long_of : (g : Gathering) → g.signless ≡ false → g.kept.over ≡ true → gathered_entry g ≡ Bad fault.TooLong
+says_too_long_of : (g : Gathering) → g.signless ≡ false → g.kept.over ≡ true → gathered_entry g ≡ Err fault.TooLong
 unfolding gathered_entry
 says_too_long_of g h i = rw (h, i)
 
@@ -312,13 +313,13 @@ lines_first line (byte ∷ bytes) = by (eqb byte 10) (lines_first (line ++ (byte
     by false p = p ∙ ap (λ (l : List ℕ). l ∷ lines_behind bytes) (append_assoc line (byte ∷ []) (first_rest bytes))
 
 -- a bad first line is the end
-draft_stops : (d : Draft) (number : ℕ) (line : List ℕ) (lines : List (List ℕ)) (entry : Entry) → entry_of line ≡ entry
-    → is_fault (after_entry d entry number).fault ≡ true → draft_from d number (line ∷ lines) ≡ after_entry d entry number
+draft_stops : (d : Draft) (number : ℕ) (line : List ℕ) (lines : List (List ℕ)) (entry : Result (Option Entry) Fault) → entry_of line ≡ entry
+    → is_fault (after_entry d entry number).bad ≡ true → draft_from d number (line ∷ lines) ≡ after_entry d entry number
 unfolding draft_from
 draft_stops d number line lines entry e f = rw (e, f)
 
-pub draft_goes : (d : Draft) (number : ℕ) (line : List ℕ) (lines : List (List ℕ)) (entry : Entry) → entry_of line ≡ entry
-    → is_fault (after_entry d entry number).fault ≡ false → draft_from d number (line ∷ lines) ≡ draft_from (after_entry d entry number) (one_more number) lines
+pub draft_goes : (d : Draft) (number : ℕ) (line : List ℕ) (lines : List (List ℕ)) (entry : Result (Option Entry) Fault) → entry_of line ≡ entry
+    → is_fault (after_entry d entry number).bad ≡ false → draft_from d number (line ∷ lines) ≡ draft_from (after_entry d entry number) (one_more number) lines
 unfolding draft_from
 draft_goes d number line lines entry e f = rw (e, f)
 
@@ -356,11 +357,11 @@ module _ (d : Draft) (g : Gathering) where
   unfolding byte_read
   byte_read_lem byte e = rw e
 
-  bad_ended : is_fault (line_taken d g).fault ≡ true → line_ended d g ≡ reading_with (line_taken d g) g false
+  bad_ended : is_fault (line_taken d g).bad ≡ true → line_ended d g ≡ reading_with (line_taken d g) g false
   unfolding line_ended
   bad_ended f = rw f
 
-  good_ended : is_fault (line_taken d g).fault ≡ false → line_ended d g ≡ reading_with (line_taken d g) (gathering_at (one_more g.number)) true
+  good_ended : is_fault (line_taken d g).bad ≡ false → line_ended d g ≡ reading_with (line_taken d g) (gathering_at (one_more g.number)) true
   unfolding line_ended
   good_ended f = rw f
 
@@ -401,13 +402,13 @@ module _ (bytes : List ℕ) (on : ReadOn bytes) (line : List ℕ) (d : Draft) (g
   after byte next e = ap ended_of (fed_on (reading_with d g true) byte bytes refl ∙ ap (λ (r : Reading). fed_of r bytes) e)
 
   module _ (byte : ℕ) (e : eqb byte 10 ≡ true) where
-    end_bad : is_fault (line_taken d g).fault ≡ true → ended_of (fed_of (reading_with d g true) (byte ∷ bytes)) ≡ draft_from d g.number (lines_from line (byte ∷ bytes))
+    end_bad : is_fault (line_taken d g).bad ≡ true → ended_of (fed_of (reading_with d g true) (byte ∷ bytes)) ≡ draft_from d g.number (lines_from line (byte ∷ bytes))
     end_bad f =
         after byte (reading_with (line_taken d g) g false) (line_read d g byte e ∙ bad_ended d g f)
         ∙ over_ends (line_taken d g) g bytes
         ∙ sym (ap (draft_from d g.number) (line_closed line bytes byte e) ∙ draft_stops d g.number line (lines_from [] bytes) (gathered_entry g) (said_whole line g good so) f)
 
-    end_good : is_fault (line_taken d g).fault ≡ false → ended_of (fed_of (reading_with d g true) (byte ∷ bytes)) ≡ draft_from d g.number (lines_from line (byte ∷ bytes))
+    end_good : is_fault (line_taken d g).bad ≡ false → ended_of (fed_of (reading_with d g true) (byte ∷ bytes)) ≡ draft_from d g.number (lines_from line (byte ∷ bytes))
     end_good f =
         let number = one_more g.number in
         after byte (reading_with (line_taken d g) (gathering_at number) true) (line_read d g byte e ∙ good_ended d g f)
@@ -437,9 +438,9 @@ module _ (bytes : List ℕ) (on : ReadOn bytes) (line : List ℕ) (d : Draft) (g
         ∙ sym (ap (draft_from d g.number) (line_longer line bytes byte e))
 
   byte_on : (byte : ℕ) → ended_of (fed_of (reading_with d g true) (byte ∷ bytes)) ≡ draft_from d g.number (lines_from line (byte ∷ bytes))
-  byte_on byte = by (eqb byte 10) refl (is_fault (line_taken d g).fault) refl
+  byte_on byte = by (eqb byte 10) refl (is_fault (line_taken d g).bad) refl
     where
-      by : (a : Bool) → eqb byte 10 ≡ a → (b : Bool) → is_fault (line_taken d g).fault ≡ b
+      by : (a : Bool) → eqb byte 10 ≡ a → (b : Bool) → is_fault (line_taken d g).bad ≡ b
           → ended_of (fed_of (reading_with d g true) (byte ∷ bytes)) ≡ draft_from d g.number (lines_from line (byte ∷ bytes))
       by true e true f = end_bad byte e f
       by true e false f = end_good byte e f
@@ -447,7 +448,7 @@ module _ (bytes : List ℕ) (on : ReadOn bytes) (line : List ℕ) (d : Draft) (g
 
 pub last_line : (d : Draft) (number : ℕ) (line : List ℕ) → draft_from d number (line ∷ []) ≡ after_entry d (entry_of line) number
 unfolding draft_from
-last_line d number line = by (is_fault (after_entry d (entry_of line) number).fault)
+last_line d number line = by (is_fault (after_entry d (entry_of line) number).bad)
   where
     by : (b : Bool) → cond b (after_entry d (entry_of line) number) (after_entry d (entry_of line) number) ≡ after_entry d (entry_of line) number
     by true = refl
@@ -464,7 +465,7 @@ no_more_lines line = refl
 read_on : (text : List ℕ) → ReadOn text
 read_on [] line d g good so =
     nothing_left d g
-    ∙ ap (λ (entry : Entry). after_entry d entry g.number) (sym (said_whole line g good so))
+    ∙ ap (λ (entry : Result (Option Entry) Fault). after_entry d entry g.number) (sym (said_whole line g good so))
     ∙ sym (ap (draft_from d g.number) (no_more_lines line) ∙ last_line d g.number line)
 read_on (byte ∷ bytes) line d g good so = byte_on bytes (read_on bytes) line d g good so byte
 

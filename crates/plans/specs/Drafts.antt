@@ -1,11 +1,11 @@
 -- A plan as far as it is read, and the plan of a whole text (docs/LINES.md, busplan FILE; 02 j). Assumes nothing.
-use Rattle.std.specs.Prelude.{ℕ, ◌+◌, ◌%◌, ◌^◌, Bool, true, false, cond, List, [], ◌∷◌, ◌++◌, replicate, ◌==◌, slice_set}
+use Rattle.std.specs.Prelude.{ℕ, ◌+◌, ◌%◌, ◌^◌, Bool, true, false, cond, List, [], ◌∷◌, ◌++◌, replicate, ◌==◌, slice_set, Option, None, Some, Result, Ok, Err}
 use Rattle.schedule.specs.declared.messages.Message.{Message}
 use Rattle.schedule.specs.Messages.{empty_schedule, with_of}
 use Rattle.plans.specs.declared.entries.Fault.{Fault}
-use Rattle.plans.specs.declared.entries.Fault.TheVariants as fault
 use Rattle.plans.specs.declared.entries.Entry.{Entry}
-use Rattle.plans.specs.declared.entries.Entry.TheVariants.{Nothing, Capacities, Capacity, Placed, Unplaced, Bad}
+use Rattle.plans.specs.declared.entries.Entry.TheVariants.{Capacities, Capacity, Placed, Unplaced}
+use Rattle.plans.specs.declared.drafts.BadLine.{BadLine}
 use Rattle.plans.specs.declared.drafts.Draft.{Draft}
 use Rattle.plans.specs.Entries.{entry_of}
 
@@ -23,9 +23,8 @@ empty_draft = record {
   firsts = replicate 64 0;
   capacities = replicate 64 0;
   given = 0;
-  line = 0;
   unplaced = false;
-  fault = fault.None;
+  bad = None;
 }
 
 abbrev pub with_capacities : Draft → List ℕ → Draft
@@ -35,9 +34,8 @@ with_capacities d capacities = record {
   firsts = d.firsts;
   capacities = capacities;
   given = d.given;
-  line = d.line;
   unplaced = d.unplaced;
-  fault = d.fault;
+  bad = d.bad;
 }
 
 -- A message more, and the number of its line. Of a 65th the line is kept too, to be told of.
@@ -48,9 +46,8 @@ with_message d message number = record {
   firsts = d.firsts;
   capacities = d.capacities;
   given = d.given;
-  line = d.line;
   unplaced = d.unplaced;
-  fault = d.fault;
+  bad = d.bad;
 }
 
 -- The first frame of the message at a place.
@@ -61,9 +58,8 @@ with_first d place first = record {
   firsts = slice_set d.firsts place first;
   capacities = d.capacities;
   given = one_more d.given;
-  line = d.line;
   unplaced = d.unplaced;
-  fault = d.fault;
+  bad = d.bad;
 }
 
 -- A message that has none.
@@ -74,9 +70,8 @@ without_first d = record {
   firsts = d.firsts;
   capacities = d.capacities;
   given = d.given;
-  line = d.line;
   unplaced = true;
-  fault = d.fault;
+  bad = d.bad;
 }
 
 -- Other first frames for all messages.
@@ -87,9 +82,8 @@ with_firsts d firsts = record {
   firsts = firsts;
   capacities = d.capacities;
   given = d.given;
-  line = d.line;
   unplaced = d.unplaced;
-  fault = d.fault;
+  bad = d.bad;
 }
 
 -- A bad line, and its number.
@@ -100,32 +94,27 @@ with_fault d wrong number = record {
   firsts = d.firsts;
   capacities = d.capacities;
   given = d.given;
-  line = number;
   unplaced = d.unplaced;
-  fault = wrong;
+  bad = Some (record { fault = wrong; line = number });
 }
 
 -- ---- line by line
 
 -- What a line of that number adds. "Later lines win."
-unfoldable pub after_entry : Draft → Entry → ℕ → Draft
-after_entry d Nothing number = d
-after_entry d (Capacities ticks) number = with_capacities d (replicate 64 ticks)
-after_entry d (Capacity frame ticks) number = with_capacities d (slice_set d.capacities frame ticks)
-after_entry d (Placed message first) number = with_first (with_message d message number) d.schedule.count first
-after_entry d (Unplaced message) number = without_first (with_message d message number)
-after_entry d (Bad wrong) number = with_fault d wrong number
+unfoldable pub with_entry : Draft → Entry → ℕ → Draft
+with_entry d (Capacities ticks) number = with_capacities d (replicate 64 ticks)
+with_entry d (Capacity frame ticks) number = with_capacities d (slice_set d.capacities frame ticks)
+with_entry d (Placed message first) number = with_first (with_message d message number) d.schedule.count first
+with_entry d (Unplaced message) number = without_first (with_message d message number)
 
-unfoldable pub is_fault : Fault → Bool
-is_fault fault.None = false
-is_fault fault.Unknown = true
-is_fault fault.NoSign = true
-is_fault fault.TooLong = true
-is_fault fault.CapacityParts = true
-is_fault fault.MessageParts = true
-is_fault fault.Command = true
-is_fault fault.Number = true
-is_fault fault.Frame = true
+unfoldable pub after_entry : Draft → Result (Option Entry) Fault → ℕ → Draft
+after_entry d (Ok None) number = d
+after_entry d (Ok (Some entry)) number = with_entry d entry number
+after_entry d (Err wrong) number = with_fault d wrong number
+
+unfoldable pub is_fault : Option BadLine → Bool
+is_fault None = false
+is_fault (Some bad) = true
 
 -- The lines of a text: each ends at byte 10. "The last line may lack its end."
 unfoldable pub lines_from : List ℕ → List ℕ → List (List ℕ)
@@ -136,7 +125,7 @@ lines_from line (byte ∷ bytes) = cond (byte == 10) (line ∷ lines_from [] byt
 unfoldable pub draft_from : Draft → ℕ → List (List ℕ) → Draft
 draft_from d number [] = d
 draft_from d number (line ∷ lines) =
-    cond (is_fault (after_entry d (entry_of line) number).fault)
+    cond (is_fault (after_entry d (entry_of line) number).bad)
     (after_entry d (entry_of line) number)
     (draft_from (after_entry d (entry_of line) number) (one_more number) lines)
 

@@ -1,9 +1,9 @@
 -- The machine that reads a plan: it is fed the text in any chunks, and ended (docs/LINES.md, busplan FILE). Assumes nothing.
-use Rattle.std.specs.Prelude.{ℕ, ◌+◌, Bool, true, false, cond, ◌&&◌, ◌||◌, List, [], ◌∷◌, replicate, ◌==◌, nat_lt, slice_set}
+use Rattle.std.specs.Prelude.{ℕ, ◌+◌, Bool, true, false, cond, ◌&&◌, ◌||◌, List, [], ◌∷◌, replicate, ◌==◌, nat_lt, slice_set, Option, Result, Err}
 use Rattle.lines.specs.Parts.{between_of}
 use Rattle.plans.specs.declared.entries.Fault.TheVariants as fault
+use Rattle.plans.specs.declared.entries.Fault.{Fault}
 use Rattle.plans.specs.declared.entries.Entry.{Entry}
-use Rattle.plans.specs.declared.entries.Entry.TheVariants.{Bad}
 use Rattle.plans.specs.declared.gatherings.Kept.{Kept}
 use Rattle.plans.specs.declared.gatherings.Gathering.{Gathering}
 use Rattle.plans.specs.declared.drafts.Draft.{Draft}
@@ -60,8 +60,8 @@ unfoldable pub is_bad_line : Gathering → Bool
 is_bad_line g = g.signless || g.kept.over
 
 -- What the line says.
-unfoldable pub gathered_entry : Gathering → Entry
-gathered_entry g = cond g.signless (Bad fault.NoSign) (cond g.kept.over (Bad fault.TooLong) (parts_entry (parts_of (kept_text g.kept))))
+unfoldable pub gathered_entry : Gathering → Result (Option Entry) Fault
+gathered_entry g = cond g.signless (Err fault.NoSign) (cond g.kept.over (Err fault.TooLong) (parts_entry (parts_of (kept_text g.kept))))
 
 -- ---- the reading
 
@@ -77,7 +77,7 @@ line_taken draft gathering = after_entry draft (gathered_entry gathering) gather
 
 -- Whether the last line that was taken is bad.
 abbrev pub is_bad_draft : Draft → Bool
-is_bad_draft draft = is_fault draft.fault
+is_bad_draft draft = is_fault draft.bad
 
 -- A line has ended: the next one begins, but behind a bad one.
 unfoldable pub line_ended : Draft → Gathering → Reading

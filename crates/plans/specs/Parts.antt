@@ -1,5 +1,5 @@
 -- The parts of a line of a plan (docs/LINES.md, busplan FILE; 02 j). Assumes nothing.
-use Rattle.std.specs.Prelude.{ℕ, zero, suc, Bool, true, false, cond, not, ◌&&◌, ◌||◌, List, [], ◌∷◌, ◌++◌, length, ◌==◌, nat_lt}
+use Rattle.std.specs.Prelude.{ℕ, suc, Bool, true, false, cond, not, ◌&&◌, ◌||◌, List, [], ◌∷◌, ◌++◌, length, ◌==◌, nat_lt}
 
 -- ---- "`#` begins a comment, anywhere in a line."
 
@@ -52,9 +52,3 @@ parts_of text = cond (length text == 0) [] (split_from [] text)
 unfoldable pub parts_behind : List ℕ → ℕ
 parts_behind [] = 0
 parts_behind (byte ∷ bytes) = cond (byte == 32) (suc (parts_behind bytes)) (parts_behind bytes)
-
--- Where a part begins that has so many before it; the end of the text where there is none.
-unfoldable pub part_start : ℕ → List ℕ → ℕ
-part_start left [] = 0
-part_start zero (byte ∷ bytes) = 0
-part_start (suc left) (byte ∷ bytes) = suc (cond (byte == 32) (part_start left bytes) (part_start (suc left) bytes))

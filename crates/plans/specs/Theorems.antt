@@ -1,10 +1,9 @@
 -- What is proved of reading a plan (02 j). Each is proved in proofs/ under the name at its side. Assumes nothing.
-use Rattle.std.specs.Prelude.{◌≡◌, ℕ, ◌^◌, ◌<◌, ◌≤◌, false, ◌⊎◌, List, [], ◌∷◌, ◌++◌, length, take}
+use Rattle.std.specs.Prelude.{◌≡◌, ℕ, ◌^◌, ◌<◌, ◌≤◌, false, ◌⊎◌, List, [], ◌∷◌, ◌++◌, length, take, None}
 use Rattle.schedule.specs.declared.messages.Message.{Message}
 use Rattle.schedule.specs.declared.schedules.Schedule.{Schedule}
 use Rattle.schedule.specs.Messages.{messages_most, messages_in}
 use Rattle.schedule.specs.Frames.{check_of}
-use Rattle.plans.specs.declared.entries.Fault.TheVariants as fault
 use Rattle.plans.specs.declared.drafts.Draft.{Draft}
 use Rattle.plans.specs.declared.readings.Reading.{Reading}
 use Rattle.plans.specs.Drafts.{plan_of}
@@ -66,7 +65,7 @@ pub record SaidBack (schedule : Schedule) (firsts capacities : List ℕ) (d : Dr
   pub first_frames : take schedule.count d.firsts ≡ take schedule.count firsts
   pub frames : d.capacities ≡ capacities
   pub placed : d.unplaced ≡ false
-  pub whole : d.fault ≡ fault.None
+  pub whole : d.bad ≡ None
 
 -- What is written of a schedule, read, is the schedule: plan_read_back
 abbrev pub PlanReadBack : Type 0

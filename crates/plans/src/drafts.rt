@@ -1,12 +1,20 @@
 // A plan as far as it is read: its messages with their lines and first frames, the capacities, how many first frames were given and whether one
 // was not, and what is wrong with which line (02 j). Meaning: specs/Drafts.antt. Refusals: none.
 ghost use Rattle.std.specs.Prelude.{◌≡◌, replicate, slice_set};
-ghost use Rattle.plans.specs.Drafts.{empty_draft, with_capacities, with_message, with_first, without_first, with_firsts, with_fault, after_entry, is_fault};
+ghost use Rattle.plans.specs.Drafts.{empty_draft, with_capacities, with_message, with_first, without_first, with_firsts, with_fault, with_entry, after_entry, is_fault};
 
 use crate::entries::{Entry, Fault};
-use schedule::{Frames, Message, Schedule};
+use schedule::{FRAMES, Frames, Message, Schedule};
 use std::num::wrapping_add_u64;
 
+// What is wrong with which line, counted from 1.
+#[derive(Clone, Copy, Debug, PartialEq, Eq)]
+pub struct BadLine {
+    pub fault: Fault,
+    pub line: u64,
+}
+
+// The tables stand beside their schedule: `firsts` is lent to the check as it is, and of `lines` the 65th is the line of the message that is too many.
 #[derive(Clone, Copy)]
 pub struct Draft {
     pub schedule: Schedule,
@@ -15,41 +23,46 @@ pub struct Draft {
     pub firsts: Frames,
     pub capacities: Frames,
     pub given: u64,
-    // the number of the bad line, 0 where there is none
-    pub line: u64,
     pub unplaced: bool,
-    pub fault: Fault,
+    // the last line that was read, where it is none of a plan
+    pub bad: Option<BadLine>,
+}
+
+// Puts a number at a place of a table, where it has that place.
+fn put(table: &mut [u64], place: u64, number: u64)
+    ensures table { table.new ≡ slice_set table.old place number }
+{
+    if place < table.len() as u64 {
+        table[place as usize] = number;
+    }
 }
 
 impl Draft {
     // Gives a plan before its first line. Frames that no line gives a capacity have 0.
+    #[tactic(auto, unfolding(crate::specs::Drafts::empty_draft))]
     pub(crate) fn start() -> Draft
         ensures draft { result ≡ empty_draft }
     {
-        let none = [0u64; 64];
-        let lines = [0u64; 65];
+        let none = [0; FRAMES];
+        let lines = [0; 65];
         Draft {
             schedule: Schedule::empty(),
             lines,
             firsts: none,
             capacities: none,
             given: 0,
-            line: 0,
             unplaced: false,
-            fault: Fault::None,
+            bad: None,
         }
     }
 
     // Says whether the last line was none of a plan.
     // Tables: none. Refusals: none.
+    #[tactic(auto, unfolding(crate::specs::Drafts::is_fault))]
     pub fn is_bad(self) -> bool
-        ensures answer { result ≡ is_fault self.fault }
+        ensures answer { result ≡ is_fault self.bad }
     {
-        let fault = self.fault;
-        match fault {
-            Fault::None => false,
-            _ => true,
-        }
+        self.bad.is_some()
     }
 
     // Gives the plan with one capacity for all frames.
@@ -57,8 +70,7 @@ impl Draft {
         ensures draft { result ≡ with_capacities self (replicate 64 ticks) }
     {
         let mut next = self;
-        let every = [ticks; 64];
-        next.capacities = every;
+        next.capacities = [ticks; FRAMES];
         next
     }
 
@@ -67,10 +79,7 @@ impl Draft {
         ensures draft { result ≡ with_capacities self (slice_set self.capacities frame ticks) }
     {
         let mut next = self;
-        if frame < 64 {
-            next.capacities[frame as usize] = ticks;
-            return next;
-        }
+        put(&mut next.capacities, frame, ticks);
         next
     }
 
@@ -80,13 +89,8 @@ impl Draft {
     {
         let mut next = self;
         let schedule = self.schedule;
-        let place = schedule.count;
-        let more = schedule.with(message);
-        next.schedule = more;
-        if place < 65 {
-            next.lines[place as usize] = line;
-            return next;
-        }
+        put(&mut next.lines, schedule.count, line);
+        next.schedule = schedule.with(message);
         next
     }
 
@@ -96,10 +100,7 @@ impl Draft {
     {
         let mut next = self;
         next.given = wrapping_add_u64(self.given, 1);
-        if place < 64 {
-            next.firsts[place as usize] = first;
-            return next;
-        }
+        put(&mut next.firsts, place, first);
         next
     }
 
@@ -126,28 +127,17 @@ impl Draft {
     fn failed(self, fault: Fault, line: u64) -> Draft
         ensures draft { result ≡ with_fault self fault line }
     {
-        let schedule = self.schedule;
-        let lines = self.lines;
-        let firsts = self.firsts;
-        let capacities = self.capacities;
-        Draft {
-            schedule,
-            lines,
-            firsts,
-            capacities,
-            given: self.given,
-            line,
-            unplaced: self.unplaced,
-            fault,
-        }
+        let mut next = self;
+        next.bad = Some(BadLine { fault, line });
+        next
     }
 
-    // Gives the plan with what a line says.
-    pub(crate) fn take(self, entry: Entry, line: u64) -> Draft
-        ensures draft { result ≡ after_entry self entry line }
+    // Gives the plan with an entry more.
+    #[tactic(auto, unfolding(crate::specs::Drafts::with_entry))]
+    fn with_entry(self, entry: Entry, line: u64) -> Draft
+        ensures draft { result ≡ with_entry self entry line }
     {
         match entry {
-            Entry::Nothing => self,
             Entry::Capacities(ticks) => self.with_capacities(ticks),
             Entry::Capacity(frame, ticks) => self.with_capacity(frame, ticks),
             Entry::Placed(message, first) => {
@@ -155,7 +145,18 @@ impl Draft {
                     .with_first(self.schedule.count, first)
             }
             Entry::Unplaced(message) => self.with(message, line).without_first(),
-            Entry::Bad(fault) => self.failed(fault, line),
+        }
+    }
+
+    // Gives the plan with what a line says.
+    #[tactic(auto, unfolding(crate::specs::Drafts::after_entry))]
+    pub(crate) fn take(self, said: Result<Option<Entry>, Fault>, line: u64) -> Draft
+        ensures draft { result ≡ after_entry self said line }
+    {
+        match said {
+            Ok(Some(entry)) => self.with_entry(entry, line),
+            Ok(None) => self,
+            Err(fault) => self.failed(fault, line),
         }
     }
 }

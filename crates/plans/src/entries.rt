@@ -5,18 +5,15 @@ ghost use Rattle.plans.specs.Parts.{parts_of};
 ghost use Rattle.plans.specs.Entries.{word_of, is_command, capacities_of, capacity_of, placed_of, message_with, single_of, pair_of, message_entry, capacity_entry, parts_entry};
 
 use crate::parts::{part, parts_behind};
-use lines::{Number, is_same, read_decimal, read_hexadecimal};
-use schedule::Message;
+use lines::{is_same, read_decimal, read_hexadecimal};
+use schedule::{FRAMES, Message};
 use words::CommandWord;
 
 const COMMAND_DIGITS: usize = 4;
 
-const FRAMES: u64 = 64;
-
 // What is wrong with a line.
-#[derive(Clone, Copy)]
+#[derive(Clone, Copy, Debug, PartialEq, Eq)]
 pub enum Fault {
-    None,
     Unknown,
     NoSign,
     TooLong,
@@ -27,15 +24,13 @@ pub enum Fault {
     Frame,
 }
 
-// What a line says: nothing, the capacity of all frames or of one, a message with its first frame or without, or what is wrong with it.
+// What a line says: the capacity of all frames or of one, or a message with its first frame or without.
 #[derive(Clone, Copy)]
-pub enum Entry {
-    Nothing,
+pub(crate) enum Entry {
     Capacities(u64),
     Capacity(u64, u64),
     Placed(Message, u64),
     Unplaced(Message),
-    Bad(Fault),
 }
 
 // Gives the command word of a number that four digits spell: the rest of a division by 2^16 is the number.
@@ -46,67 +41,59 @@ fn word_of(number: u64) -> CommandWord
 }
 
 // Says whether a text is a command word.
+#[tactic(auto, unfolding(crate::specs::Entries::is_command, crate::specs::Entries::is_number))]
 fn is_command(text: &[u8]) -> bool
     ensures answer { result ≡ is_command text.now }
 {
-    if let Number::Is(_) = read_hexadecimal(text, COMMAND_DIGITS) {
-        return true;
-    }
-    false
+    read_hexadecimal(text, COMMAND_DIGITS).is_some()
 }
 
 // "capacity TICKS"
-fn capacities_of(ticks: &[u8]) -> Entry
+#[tactic(auto, unfolding(crate::specs::Entries::capacities_of))]
+fn capacities_of(ticks: &[u8]) -> Result<Entry, Fault>
     ensures entry { result ≡ capacities_of ticks.now }
 {
-    let Number::Is(number) = read_decimal(ticks) else {
-        return Entry::Bad(Fault::Number);
-    };
-    Entry::Capacities(number)
+    let number = read_decimal(ticks).ok_or(Fault::Number)?;
+    Ok(Entry::Capacities(number))
 }
 
 // "capacity FRAME TICKS"
-fn capacity_of(frame: &[u8], ticks: &[u8]) -> Entry
+#[tactic(auto, unfolding(crate::specs::Entries::capacity_of))]
+fn capacity_of(frame: &[u8], ticks: &[u8]) -> Result<Entry, Fault>
     ensures entry { result ≡ capacity_of frame.now ticks.now }
 {
-    let Number::Is(place) = read_decimal(frame) else {
-        return Entry::Bad(Fault::Number);
-    };
-    if place >= FRAMES {
-        return Entry::Bad(Fault::Frame);
+    let place = read_decimal(frame).ok_or(Fault::Number)?;
+    if place >= FRAMES as u64 {
+        return Err(Fault::Frame);
     }
-    let Number::Is(number) = read_decimal(ticks) else {
-        return Entry::Bad(Fault::Number);
-    };
-    Entry::Capacity(place, number)
+    let number = read_decimal(ticks).ok_or(Fault::Number)?;
+    Ok(Entry::Capacity(place, number))
 }
 
 // Gives a message with its first frame, where the line has one.
-fn placed(message: Message, frame: &[u8]) -> Entry
+#[tactic(auto, unfolding(crate::specs::Entries::placed_of))]
+fn placed(message: Message, frame: &[u8]) -> Result<Entry, Fault>
     ensures entry { result ≡ placed_of message frame.now }
 {
-    if frame.len() == 0 {
-        return Entry::Unplaced(message);
+    if frame.is_empty() {
+        return Ok(Entry::Unplaced(message));
     }
-    let Number::Is(place) = read_decimal(frame) else {
-        return Entry::Bad(Fault::Number);
-    };
-    Entry::Placed(message, place)
+    let place = read_decimal(frame).ok_or(Fault::Number)?;
+    Ok(Entry::Placed(message, place))
 }
 
 // Gives a message with its period, and with its first frame where the line has one.
+#[tactic(auto, unfolding(crate::specs::Entries::message_with))]
 fn message_with(
     commands: u8,
     first: CommandWord,
     second: CommandWord,
     period: &[u8],
     frame: &[u8],
-) -> Entry
+) -> Result<Entry, Fault>
     ensures entry { result ≡ message_with commands first second period.now frame.now }
 {
-    let Number::Is(frames) = read_decimal(period) else {
-        return Entry::Bad(Fault::Number);
-    };
+    let frames = read_decimal(period).ok_or(Fault::Number)?;
     let message = Message {
         commands,
         first,
@@ -117,31 +104,27 @@ fn message_with(
 }
 
 // "message C1 PERIOD [FIRST]". Of one command the second word is not read.
-fn single_of(command: &[u8], period: &[u8], frame: &[u8]) -> Entry
+#[tactic(auto, unfolding(crate::specs::Entries::single_of))]
+fn single_of(command: &[u8], period: &[u8], frame: &[u8]) -> Result<Entry, Fault>
     ensures entry { result ≡ single_of command.now period.now frame.now }
 {
-    let Number::Is(number) = read_hexadecimal(command, COMMAND_DIGITS) else {
-        return Entry::Bad(Fault::Command);
-    };
+    let number = read_hexadecimal(command, COMMAND_DIGITS).ok_or(Fault::Command)?;
     let word = word_of(number);
     message_with(1, word, word, period, frame)
 }
 
 // "message C1 C2 PERIOD [FIRST]"
-fn pair_of(first: &[u8], second: &[u8], period: &[u8], frame: &[u8]) -> Entry
+#[tactic(auto, unfolding(crate::specs::Entries::pair_of))]
+fn pair_of(first: &[u8], second: &[u8], period: &[u8], frame: &[u8]) -> Result<Entry, Fault>
     ensures entry { result ≡ pair_of first.now second.now period.now frame.now }
 {
-    let Number::Is(number) = read_hexadecimal(first, COMMAND_DIGITS) else {
-        return Entry::Bad(Fault::Command);
-    };
-    let Number::Is(other) = read_hexadecimal(second, COMMAND_DIGITS) else {
-        return Entry::Bad(Fault::Command);
-    };
+    let number = read_hexadecimal(first, COMMAND_DIGITS).ok_or(Fault::Command)?;
+    let other = read_hexadecimal(second, COMMAND_DIGITS).ok_or(Fault::Command)?;
     message_with(2, word_of(number), word_of(other), period, frame)
 }
 
 // Gives what a line says that begins with "message". Of three parts behind it the second is a command word where it has the form of one.
-fn read_message(line: &[u8]) -> Entry
+fn read_message(line: &[u8]) -> Result<Entry, Fault>
     ensures entry { result ≡ message_entry (drop 1 (parts_of line.now)) }
 {
     let first = part(line, 1);
@@ -156,34 +139,34 @@ fn read_message(line: &[u8]) -> Entry
             single_of(first, second, third)
         }
         4 => pair_of(first, second, third, part(line, 4)),
-        _ => Entry::Bad(Fault::MessageParts),
+        _ => Err(Fault::MessageParts),
     }
 }
 
 // Gives what a line says that begins with "capacity".
-fn read_capacity(line: &[u8]) -> Entry
+fn read_capacity(line: &[u8]) -> Result<Entry, Fault>
     ensures entry { result ≡ capacity_entry (drop 1 (parts_of line.now)) }
 {
     match parts_behind(line) {
         1 => capacities_of(part(line, 1)),
         2 => capacity_of(part(line, 1), part(line, 2)),
-        _ => Entry::Bad(Fault::CapacityParts),
+        _ => Err(Fault::CapacityParts),
     }
 }
 
-// Gives what a line says whose parts stand apart by one space each.
-pub(crate) fn read_entry(line: &[u8]) -> Entry
+// Gives what a line says whose parts stand apart by one space each, or None where it says nothing.
+pub(crate) fn read_entry(line: &[u8]) -> Result<Option<Entry>, Fault>
     ensures entry { result ≡ parts_entry (parts_of line.now) }
 {
-    if line.len() == 0 {
-        return Entry::Nothing;
+    if line.is_empty() {
+        return Ok(None);
     }
     let name = part(line, 0);
     if is_same(name, b"message") {
-        return read_message(line);
+        return Ok(Some(read_message(line)?));
     }
     if is_same(name, b"capacity") {
-        return read_capacity(line);
+        return Ok(Some(read_capacity(line)?));
     }
-    Entry::Bad(Fault::Unknown)
+    Err(Fault::Unknown)
 }

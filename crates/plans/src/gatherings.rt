@@ -12,16 +12,17 @@ use std::num::wrapping_add_u64;
 // a longest line, "message C1 C2 PERIOD FIRST" with numbers of 20 digits, has 59 bytes
 const LINE_MOST: usize = 64;
 
-// The bytes of a line that are kept: the first `length` of these.
+// The bytes of a line that are kept: the first `length` of these. A line is copied with the reading that it stands in, and there is no heap: so they stand in a table
+// beside their number.
 #[derive(Clone, Copy)]
 pub struct Kept {
     length: usize,
-    line: [u8; 64],
+    line: [u8; LINE_MOST],
     // they do not fit, so it is no line of a plan
     over: bool,
 }
 
-// What is known of a line so far.
+// What is known of a line so far. Both flags that make it bad are kept, since which comes first is told once, at its entry.
 #[derive(Clone, Copy)]
 pub struct Gathering {
     kept: Kept,
@@ -40,7 +41,7 @@ impl Kept {
     fn none() -> Kept
         ensures kept { result ≡ kept_none }
     {
-        let line = [0u8; 64];
+        let line = [0; LINE_MOST];
         Kept {
             length: 0,
             line,
@@ -49,6 +50,7 @@ impl Kept {
     }
 
     // Keeps a byte at the end, where there is room.
+    #[tactic(auto, unfolding(crate::specs::Machine::kept_with))]
     fn with(self, byte: u8) -> Kept
         ensures kept { result ≡ kept_with self byte }
     {
@@ -68,7 +70,7 @@ impl Kept {
 fn is_control(byte: u8) -> bool
     ensures answer { result ≡ is_control byte }
 {
-    (byte < b' ') | (byte == 0x7F)
+    byte.is_ascii_control()
 }
 
 impl Gathering {
@@ -93,6 +95,7 @@ impl Gathering {
     }
 
     // Says whether it is no line of a plan, whatever comes behind.
+    #[tactic(auto, unfolding(crate::specs::Machine::is_bad_line))]
     pub(crate) fn is_bad(self) -> bool
         ensures answer { result ≡ is_bad_line self }
     {
@@ -100,6 +103,7 @@ impl Gathering {
     }
 
     // Keeps the space that stands before the next byte, but not in front.
+    #[tactic(auto, unfolding(crate::specs::Machine::after_space))]
     fn after_space(self) -> Kept
         ensures kept { result ≡ after_space self }
     {
@@ -111,6 +115,7 @@ impl Gathering {
     }
 
     // Takes one byte of the line.
+    #[tactic(auto, unfolding(crate::specs::Machine::gathered))]
     pub(crate) fn take(self, byte: u8) -> Gathering
         ensures line { result ≡ gathered self byte }
     {
@@ -131,15 +136,16 @@ impl Gathering {
     }
 
     // Gives what the line says, once it has ended or is known to be bad.
-    pub(crate) fn entry(self) -> Entry
+    #[tactic(auto, unfolding(crate::specs::Machine::gathered_entry))]
+    pub(crate) fn entry(self) -> Result<Option<Entry>, Fault>
         ensures entry { result ≡ gathered_entry self }
     {
         let kept = self.kept;
         if self.signless {
-            return Entry::Bad(Fault::NoSign);
+            return Err(Fault::NoSign);
         }
         if kept.over {
-            return Entry::Bad(Fault::TooLong);
+            return Err(Fault::TooLong);
         }
         let line = kept.line;
         read_entry(between(&line, 0, kept.length))

@@ -8,6 +8,6 @@ mod gatherings;
 mod parts;
 mod readings;
 
-pub use drafts::Draft;
+pub use drafts::{BadLine, Draft};
 pub use entries::Fault;
 pub use readings::Reading;

@@ -44,9 +44,8 @@ impl Reading {
         }
         let mut draft = self.draft;
         let mut gathering = self.gathering;
-        let mut i = 0;
-        while i < chunk.len() {
-            if chunk[i] == b'\n' {
+        for byte in chunk {
+            if *byte == b'\n' {
                 draft = with_line(draft, gathering);
                 if draft.is_bad() {
                     return Reading {
@@ -57,7 +56,7 @@ impl Reading {
                 }
                 gathering = gathering.next();
             } else {
-                gathering = gathering.take(chunk[i]);
+                gathering = gathering.take(*byte);
                 if gathering.is_bad() {
                     return Reading {
                         draft: with_line(draft, gathering),
@@ -66,7 +65,6 @@ impl Reading {
                     };
                 }
             }
-            i += 1;
         }
         Reading {
             draft,
@@ -77,6 +75,7 @@ impl Reading {
 
     // Gives the plan at the end of the text. The last line may have no end.
     // Tables: none. Refusals: none.
+    #[tactic(auto, unfolding(crate::specs::Machine::ended_of))]
     pub fn end(self) -> Draft
         ensures draft { result ≡ ended_of self }
     {
