@@ -1,13 +1,11 @@
 -- The texts that a test or a number chooses, by what the code has at that place. Assumes nothing.
-use mathlib.Core.Path.{◌≡◌, refl, sym, ap, subst, ◌∙◌}
+use mathlib.Core.Path.{◌≡◌, refl, sym, ap, ◌∙◌}
 use mathlib.Core.Bool.{Bool, true, false, cond, not}
-use Prim.Native.Nat.{ℕ, ◌+◌, ◌-◌, ◌≤◌}
+use Prim.Native.Nat.{ℕ, ◌+◌, ◌-◌, ◌≤◌, ◌<◌}
 use native.Mathlib.Omega.{arith}
-use native.Mathlib.Decide.{dec_le}
-use mathlib.Core.Logic.{dite}
 use mathlib.Core.List.{List, [], ◌∷◌, ◌++◌}
 use lib.Dec.{eqb}
-use lib.ListN.{length, take, drop, take-append-drop, get_or-eq_default}
+use lib.ListN.{length, take, drop, take-append-drop, get_or}
 use borrow.Author.Tests.{eq-eqb, ne_eqb, leb-true, le-leb}
 use Rattle.words.proofs.Truth.{passes, passed}
 use Rattle.words.specs.Words.{address_of, subaddress_of, count_of, words_of, is_transmit, is_broadcast, is_mode, parity_of}
@@ -17,6 +15,9 @@ use Rattle.lines.proofs.Waits.{fits_most, place_behind, block_behind}
 use Rattle.lines.proofs.Losses.{behind}
 use Rattle.lines.specs.Spells.{text_of, number_text, Spelled, line_most, room_at, place_after_line, block_after_line}
 use Rattle.lines.proofs.Spellings.{put_length, spelled_as}
+use Rattle.verdict.specs.Numbers.{number_of}
+use Rattle.verdict.specs.declared.verdicts.Verdict.{Verdict}
+use Rattle.verdict.specs.declared.verdicts.Verdict.TheVariants as verdict
 use Rattle.salvage.specs.Machine.{is_changed}
 use Rattle.salvage.specs.declared.salvages.First.{First}
 use Rattle.salvage.specs.declared.salvages.Run.{Run}
@@ -34,17 +35,39 @@ module _ (bus : ℕ) where
   unfolding bus_text
   bus_b e = rw (ne_eqb bus 0 e)
 
-pub unnamed : (number : ℕ) → 13 ≤ number → text_of " unnamed" ≡ verdict_name number
-unfolding verdict_name
-unnamed number l = sym (get_or-eq_default verdict_names (text_of " unnamed") {n = number} l)
+-- the verdicts by their numbers
+abbrev verdicts : List Verdict
+verdicts =
+    verdict.Good ∷ verdict.NoResponse ∷ verdict.Waiting ∷ verdict.Early ∷ verdict.Late ∷ verdict.NotValid ∷ verdict.WrongSync ∷ verdict.WrongAddress
+    ∷ verdict.MessageError ∷ verdict.Busy ∷ verdict.Separated ∷ verdict.LeftOver ∷ verdict.Overlapping ∷ []
 
--- what a test says of each name, and of what has none
-pub each_name : (test : List ℕ → Bool) → passes 13 (λ (n : ℕ). test (verdict_name n)) ≡ true → test (text_of " unnamed") ≡ true
-    → (number : ℕ) → test (verdict_name number) ≡ true
-each_name test all other number =
-    dite (dec_le 13 number)
-    (λ l. subst (λ (text : List ℕ). test text ≡ true) (unnamed number l) other)
-    (λ l. passed 13 (λ (n : ℕ). test (verdict_name n)) all number (omega (arith, l)))
+-- each has a number of its own, below 13
+record Numbered (v : Verdict) : Type 0 where
+  back : get_or verdicts (number_of v) verdict.Good ≡ v
+  below : number_of v < 13
+
+numbered : (v : Verdict) → Numbered v
+numbered verdict.Good = record { back = refl; below = omega arith }
+numbered verdict.NoResponse = record { back = refl; below = omega arith }
+numbered verdict.Waiting = record { back = refl; below = omega arith }
+numbered verdict.Early = record { back = refl; below = omega arith }
+numbered verdict.Late = record { back = refl; below = omega arith }
+numbered verdict.NotValid = record { back = refl; below = omega arith }
+numbered verdict.WrongSync = record { back = refl; below = omega arith }
+numbered verdict.WrongAddress = record { back = refl; below = omega arith }
+numbered verdict.MessageError = record { back = refl; below = omega arith }
+numbered verdict.Busy = record { back = refl; below = omega arith }
+numbered verdict.Separated = record { back = refl; below = omega arith }
+numbered verdict.LeftOver = record { back = refl; below = omega arith }
+numbered verdict.Overlapping = record { back = refl; below = omega arith }
+
+pub same_verdict : (v w : Verdict) → number_of v ≡ number_of w → v ≡ w
+same_verdict v w e = sym (numbered v).back ∙ ap (λ (n : ℕ). get_or verdicts n verdict.Good) e ∙ (numbered w).back
+
+-- what a test says of each name
+pub each_name : (test : List ℕ → Bool) → passes 13 (λ (n : ℕ). test (get_or verdict_names n [])) ≡ true → (v : Verdict) → test (verdict_name v) ≡ true
+unfolding verdict_name
+each_name test all v = passed 13 (λ (n : ℕ). test (get_or verdict_names n [])) all (number_of v) (numbered v).below
 
 module _ (command : ℕ) where
   pub address_all : is_broadcast command ≡ true → text_of "all" ≡ address_text command

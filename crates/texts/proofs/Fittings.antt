@@ -17,7 +17,7 @@ use Rattle.verdict.proofs.Ranges.{verdict_range}
 use Rattle.monitor.specs.Entries.{is_command, is_data_word, is_second, commands_of, behind_of, statuses_in, statuses_by, own_bad, returned_in, has_twins, plan_of, outcome_in, gap_from, gap_before, data_words, last_command, message_of, entry_of}
 use Rattle.monitor.specs.declared.entries.Commands.TheVariants as commands
 use Rattle.monitor.specs.declared.entries.Gap.TheVariants as gap
-use Rattle.monitor.specs.declared.entries.Outcome.TheVariants as outcome
+use Rattle.std.proofs.Common.{None, Some}
 use Rattle.monitor.specs.declared.entries.Entry.TheVariants as entry
 use Rattle.texts.specs.Theorems.{Number, CommandsFit, StatusesFit, GapFits, OutcomeFits, SingleFits, Fits, EntryFits}
 
@@ -63,12 +63,12 @@ statuses_fit [] f = tt
 statuses_fit (r ∷ []) f = f.0.sixteen
 statuses_fit (r ∷ s ∷ rs) f = (f.0.sixteen, f.1.0.sixteen)
 
-gap_from_lem : (before after : ℕ) → Number after → GapFits (gap_from before after)
+gap_from_lem : (before after : ℕ) → Number after → GapFits (Some (gap_from before after))
 unfolding gap_from
 gap_from_lem before after l = by (leb parity_middle (since_of before after))
   where
     by : (b : Bool)
-        → GapFits (cond b (gap.Apart (record { 0 = since_of before after - parity_middle })) (gap.Overlap (record { 0 = parity_middle - since_of before after })))
+        → GapFits (Some (cond b (gap.Apart (record { 0 = since_of before after - parity_middle })) (gap.Overlap (record { 0 = parity_middle - since_of before after }))))
     by true = omega (arith, l)
     by false = omega arith
 
@@ -76,7 +76,7 @@ gap_fits : (before : ℕ) (rs : List WordRecord) → records.AllFit last_bus rs 
 gap_fits before [] f = tt
 gap_fits before (r ∷ rs) f = by (is_command r) (gap_from_lem before r.time.0 (record_fits r f.0).time) (gap_fits r.time.0 rs f.1)
   where
-    by : (b : Bool) → GapFits (gap_from before r.time.0) → GapFits (gap_before r.time.0 rs) → GapFits (cond b (gap_from before r.time.0) (gap_before r.time.0 rs))
+    by : (b : Bool) → GapFits (Some (gap_from before r.time.0)) → GapFits (gap_before r.time.0 rs) → GapFits (cond b (Some (gap_from before r.time.0)) (gap_before r.time.0 rs))
     by true here later = here
     by false here later = later
 
@@ -92,7 +92,7 @@ outcome_fits : (first : WordRecord) (rest : List WordRecord) (until : Moment) �
 unfolding outcome_in
 outcome_fits first rest until = by (not (is_possible (plan_of first rest until)) || own_bad first rest || has_twins first rest)
   where
-    by : (b : Bool) → OutcomeFits (cond b outcome.None (outcome.Given (record { 0 = verdict_of (plan_of first rest until) (returned_in first rest) })))
+    by : (b : Bool) → OutcomeFits (cond b None (Some (verdict_of (plan_of first rest until) (returned_in first rest))))
     by true = tt
     by false = omega (arith, verdict_range (plan_of first rest until) (returned_in first rest))
 

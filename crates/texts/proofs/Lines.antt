@@ -8,7 +8,7 @@ use mathlib.Core.List.{List, [], ◌∷◌, ◌++◌, append-nil, append_assoc}
 use lib.Dec.{eqb}
 use lib.ListN.{length, get_or, take, drop, length-take, drop_of_length-le}
 use lib.Seq.{drop-cons, get_or-take}
-use borrow.Author.Tests.{eq-eqb, ne_eqb}
+use Rattle.std.specs.List.{list_all}
 use Rattle.schedule.specs.Frames.{placed_of}
 use Rattle.schedule.proofs.Walks.{length_placed, placed_on}
 use Rattle.schedule.specs.declared.messages.Message.{Message}
@@ -110,22 +110,10 @@ capacities_end block capacities last at place i size l h =
 
 -- ---- whether they are all the same
 
-pub same_more : (wanted : ℕ) (numbers : List ℕ) (i : ℕ) → i < length numbers → get_or numbers i 0 ≡ wanted
-    → are_all wanted (drop i numbers) ≡ are_all wanted (drop (i + 1) numbers)
+pub all_same : (wanted : ℕ) (numbers : List ℕ) → list_all (λ (n : ℕ). eqb n wanted) numbers ≡ are_all wanted numbers
 unfolding are_all
-same_more wanted numbers i l e =
-    ap (are_all wanted) (drop-cons numbers i 0 l)
-    ∙ ap (λ (b : Bool). b && are_all wanted (drop (suc i) numbers)) (eq-eqb (get_or numbers i 0) wanted e)
-    ∙ ap (λ (k : ℕ). are_all wanted (drop k numbers)) {x = suc i} {y = i + 1} (omega arith)
-
-pub same_not : (wanted : ℕ) (numbers : List ℕ) (i : ℕ) → i < length numbers → (get_or numbers i 0 ≡ wanted → ⊥) → are_all wanted (drop i numbers) ≡ false
-unfolding are_all
-same_not wanted numbers i l e =
-    ap (are_all wanted) (drop-cons numbers i 0 l) ∙ ap (λ (b : Bool). b && are_all wanted (drop (suc i) numbers)) (ne_eqb (get_or numbers i 0) wanted e)
-
-pub same_all : (wanted : ℕ) (numbers : List ℕ) (i : ℕ) → length numbers ≤ i → are_all wanted (drop i numbers) ≡ true
-unfolding are_all
-same_all wanted numbers i l = ap (are_all wanted) (drop_of_length-le numbers {i = i} l)
+all_same wanted [] = refl
+all_same wanted (number ∷ numbers) = ap (λ (b : Bool). eqb number wanted && b) (all_same wanted numbers)
 
 module _ (capacities : List ℕ) where
   pub capacities_even : are_all (get_or capacities 0 0) capacities ≡ true → line_text (capacity_text ∷ decimal_text (get_or capacities 0 0) ∷ []) ≡ capacities_text capacities

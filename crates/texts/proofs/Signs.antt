@@ -16,8 +16,9 @@ use Rattle.monitor.specs.declared.entries.Statuses.{Statuses}
 use Rattle.monitor.specs.declared.entries.Statuses.TheVariants as statuses
 use Rattle.monitor.specs.declared.entries.Gap.{Gap}
 use Rattle.monitor.specs.declared.entries.Gap.TheVariants as gap
-use Rattle.monitor.specs.declared.entries.Outcome.{Outcome}
-use Rattle.monitor.specs.declared.entries.Outcome.TheVariants as outcome
+use Rattle.std.proofs.Common.{Option, None, Some}
+use Rattle.verdict.specs.Numbers.{number_of}
+use Rattle.verdict.specs.declared.verdicts.Verdict.{Verdict}
 use Rattle.monitor.specs.declared.entries.Message.{Message}
 use Rattle.monitor.specs.declared.entries.Entry.{Entry}
 use Rattle.monitor.specs.declared.entries.Entry.TheVariants as entry
@@ -97,24 +98,24 @@ statuses_signs statuses.None = within (literal (text_of " st=-") refl) refl
 statuses_signs (statuses.One first) = within (both (literal (text_of " st=") refl) (word first.0)) refl
 statuses_signs (statuses.Two first second) = both (literal (text_of " st=") refl) (pair_signs first.0 second.0)
 
-gap_signs : (g : Gap) → Signs 26 (gap_text g)
+gap_signs : (g : Option Gap) → Signs 26 (gap_text g)
 unfolding are_all
-gap_signs gap.None = within (literal (text_of " gap=-") refl) refl
-gap_signs (gap.Apart ticks) = within (keyed (text_of " gap=") refl ticks.0) refl
-gap_signs (gap.Overlap ticks) = keyed (text_of " gap=-") refl ticks.0
+gap_signs None = within (literal (text_of " gap=-") refl) refl
+gap_signs (Some (gap.Apart ticks)) = within (keyed (text_of " gap=") refl ticks.0) refl
+gap_signs (Some (gap.Overlap ticks)) = keyed (text_of " gap=-") refl ticks.0
 
-name_signs : (n : ℕ) → Signs 12 (verdict_name n)
-unfolding verdict_name passes are_all
-name_signs n =
+name_signs : (v : Verdict) → Signs 12 (verdict_name v)
+unfolding passes are_all
+name_signs v =
     record {
-      plain = each_name is_plain refl refl n;
-      short = leb-true (length (verdict_name n)) 12 (each_name (λ (text : List ℕ). leb (length text) 12) refl refl n);
+      plain = each_name is_plain refl v;
+      short = leb-true (length (verdict_name v)) 12 (each_name (λ (text : List ℕ). leb (length text) 12) refl v);
     }
 
-outcome_signs : (o : Outcome) → Signs 41 (outcome_text o)
+outcome_signs : (o : Option Verdict) → Signs 41 (outcome_text o)
 unfolding are_all
-outcome_signs outcome.None = within (literal (text_of " verdict=- none") refl) refl
-outcome_signs (outcome.Given verdict) = both (keyed (text_of " verdict=") refl verdict.0) (name_signs verdict.0)
+outcome_signs None = within (literal (text_of " verdict=- none") refl) refl
+outcome_signs (Some verdict) = both (keyed (text_of " verdict=") refl (number_of verdict)) (name_signs verdict)
 
 message_signs : (m : Message) → Signs 171 (message_text m)
 unfolding are_all

@@ -7,7 +7,6 @@ use native.Mathlib.Omega.{arith}
 use mathlib.Core.List.{List, [], ◌∷◌, ◌++◌, append_assoc}
 use lib.Dec.{eqb}
 use lib.ListN.{length, get_or, take, drop}
-use lib.Seq.{drop-append_seam}
 use borrow.Author.Tests.{eq-eqb, eqb-true, eqb-false}
 use Rattle.words.proofs.Truth.{passes, passed}
 use Rattle.records.specs.declared.forms.WordRecord.{WordRecord}
@@ -17,19 +16,20 @@ use Rattle.monitor.specs.declared.entries.Statuses.{Statuses}
 use Rattle.monitor.specs.declared.entries.Statuses.TheVariants as statuses
 use Rattle.monitor.specs.declared.entries.Gap.{Gap}
 use Rattle.monitor.specs.declared.entries.Gap.TheVariants as gap
-use Rattle.monitor.specs.declared.entries.Outcome.{Outcome}
-use Rattle.monitor.specs.declared.entries.Outcome.TheVariants as outcome
 use Rattle.monitor.specs.declared.entries.Message.{Message}
 use Rattle.monitor.specs.declared.entries.Entry.{Entry}
 use Rattle.monitor.specs.declared.entries.Entry.TheVariants as entry
-use Rattle.lines.specs.declared.numbers.Number.TheVariants.{Is}
+use Rattle.std.proofs.Common.{Option, None, Some}
+use Rattle.std.proofs.lemmas.List.{append_cancel_left}
+use Rattle.verdict.specs.Numbers.{number_of}
+use Rattle.verdict.specs.declared.verdicts.Verdict.{Verdict}
 use Rattle.lines.specs.Sinks.{digit_of, word_text, decimal_text}
 use Rattle.lines.specs.Spells.{text_of}
 use Rattle.lines.specs.Numbers.{is_digit, number_read, hexadecimal_read}
 use Rattle.lines.proofs.Backs.{text_digits, text_some, decimal_back, word_back}
 use Rattle.texts.specs.Entries.{bus_text, begin_text, pair_text, commands_text, statuses_text, gap_text, verdict_name, outcome_text, message_text, single_text, all_fields_text, flaws_text, bad_text, added_text, entry_text, line_of}
 use Rattle.texts.specs.Theorems.{Number, Word, CommandsFit, StatusesFit, GapFits, OutcomeFits, MessageFits, SingleFits, TextTells, are_all, is_sign, is_plain, lines_of, LinesTell}
-use Rattle.texts.proofs.Choices.{each_name}
+use Rattle.texts.proofs.Choices.{same_verdict, each_name}
 use Rattle.texts.proofs.Fronts.{digits_all, all_begins, front_tells}
 use Rattle.texts.proofs.Signs.{line_plain}
 
@@ -57,9 +57,6 @@ begins_both (c ∷ a) b e = e
 
 -- ---- parts behind one another
 
-cancel : (l x y : List ℕ) → l ++ x ≡ l ++ y → x ≡ y
-cancel l x y e = sym (drop-append_seam l x) ∙ ap (drop (length l)) e ∙ drop-append_seam l y
-
 -- what is the same behind a front, where the brackets stand as a definition has them
 inner : (a b x c d y : List ℕ) → (a ++ b) ++ x ≡ (c ++ d) ++ y → a ++ (b ++ x) ≡ c ++ (d ++ y)
 inner a b x c d y e = sym (append_assoc a b x) ∙ e ∙ append_assoc c d y
@@ -67,7 +64,7 @@ inner a b x c d y e = sym (append_assoc a b x) ∙ e ∙ append_assoc c d y
 keyed : {A : Type 0} {Fit : A → Type 0} {Behind : List ℕ → Type 0} {text : A → List ℕ} (key : List ℕ) → Tells Fit Behind text
     → Tells Fit Behind (λ a. key ++ text a)
 keyed {text = text} key part =
-    record { tell = λ a b x y p q s t e. part.tell a b x y p q s t (cancel key (text a ++ x) (text b ++ y) (inner key (text a) x key (text b) y e)) }
+    record { tell = λ a b x y p q s t e. part.tell a b x y p q s t (append_cancel_left key (text a ++ x) (text b ++ y) (inner key (text a) x key (text b) y e)) }
 
 both : {A B : Type 0} {Fit : A → Type 0} {Fit₂ : B → Type 0} {Behind Behind₂ : List ℕ → Type 0} {text : A → List ℕ} {text₂ : B → List ℕ}
     → Tells Fit Behind text → Tells Fit₂ Behind₂ text₂ → ((b : B) (y : List ℕ) → Behind₂ y → Behind (text₂ b ++ y))
@@ -102,7 +99,7 @@ all_digits n = digits_all (decimal_text n) (text_digits 20 n)
 
 number_same : (m n : ℕ) → Number m → Number n → decimal_text m ≡ decimal_text n → m ≡ n
 number_same m n p q e =
-    let same : Is m ≡ Is n = sym (decimal_back m p) ∙ ap number_read e ∙ decimal_back n q in
+    let same : Some m ≡ Some n = sym (decimal_back m p) ∙ ap number_read e ∙ decimal_back n q in
     cc
 
 number : Tells Number Apart decimal_text
@@ -123,7 +120,7 @@ no_number n x y d e =
 
 word_same : (v w : ℕ) → Word v → Word w → word_text v ≡ word_text w → v ≡ w
 word_same v w p q e =
-    let same : Is v ≡ Is w = sym (word_back v p) ∙ ap (λ (l : List ℕ). hexadecimal_read l 4) e ∙ word_back w q in
+    let same : Some v ≡ Some w = sym (word_back v p) ∙ ap (λ (l : List ℕ). hexadecimal_read l 4) e ∙ word_back w q in
     cc
 
 word : {Behind : List ℕ → Type 0} → Tells Word Behind word_text
@@ -205,40 +202,41 @@ statuses_tells = record { tell = by }
 gap_tells : Tells GapFits Apart gap_text
 gap_tells = record { tell = by }
   where
-    by : (g h : Gap) (x y : List ℕ) → GapFits g → GapFits h → Apart x → Apart y → gap_text g ++ x ≡ gap_text h ++ y → (g ≡ h) × (x ≡ y)
-    by gap.None gap.None x y p q s t e = (refl, ap (drop 6) e)
-    by (gap.Apart a) (gap.Apart b) x y p q s t e =
+    by : (g h : Option Gap) (x y : List ℕ) → GapFits g → GapFits h → Apart x → Apart y → gap_text g ++ x ≡ gap_text h ++ y → (g ≡ h) × (x ≡ y)
+    by None None x y p q s t e = (refl, ap (drop 6) e)
+    by (Some (gap.Apart a)) (Some (gap.Apart b)) x y p q s t e =
         let same = number.tell a.0 b.0 x y p q s t (ap (drop 5) e) in
-        (ap (λ (n : ℕ). gap.Apart (record { 0 = n })) same.0, same.1)
-    by (gap.Overlap a) (gap.Overlap b) x y p q s t e =
+        (ap (λ (n : ℕ). Some (gap.Apart (record { 0 = n }))) same.0, same.1)
+    by (Some (gap.Overlap a)) (Some (gap.Overlap b)) x y p q s t e =
         let same = number.tell a.0 b.0 x y p q s t (ap (drop 6) e) in
-        (ap (λ (n : ℕ). gap.Overlap (record { 0 = n })) same.0, same.1)
-    by gap.None (gap.Apart b) x y p q s t e = no_number b.0 (45 ∷ x) y refl (ap (drop 5) e)
-    by (gap.Apart a) gap.None x y p q s t e = no_number a.0 (45 ∷ y) x refl (sym (ap (drop 5) e))
-    by gap.None (gap.Overlap b) x y p q s t e = no_number b.0 x y (no_digit x s) (ap (drop 6) e)
-    by (gap.Overlap a) gap.None x y p q s t e = no_number a.0 y x (no_digit y t) (sym (ap (drop 6) e))
-    by (gap.Apart a) (gap.Overlap b) x y p q s t e = no_number a.0 (45 ∷ (decimal_text b.0 ++ y)) x refl (sym (ap (drop 5) e))
-    by (gap.Overlap a) (gap.Apart b) x y p q s t e = no_number b.0 (45 ∷ (decimal_text a.0 ++ x)) y refl (ap (drop 5) e)
+        (ap (λ (n : ℕ). Some (gap.Overlap (record { 0 = n }))) same.0, same.1)
+    by None (Some (gap.Apart b)) x y p q s t e = no_number b.0 (45 ∷ x) y refl (ap (drop 5) e)
+    by (Some (gap.Apart a)) None x y p q s t e = no_number a.0 (45 ∷ y) x refl (sym (ap (drop 5) e))
+    by None (Some (gap.Overlap b)) x y p q s t e = no_number b.0 x y (no_digit x s) (ap (drop 6) e)
+    by (Some (gap.Overlap a)) None x y p q s t e = no_number a.0 y x (no_digit y t) (sym (ap (drop 6) e))
+    by (Some (gap.Apart a)) (Some (gap.Overlap b)) x y p q s t e = no_number a.0 (45 ∷ (decimal_text b.0 ++ y)) x refl (sym (ap (drop 5) e))
+    by (Some (gap.Overlap a)) (Some (gap.Apart b)) x y p q s t e = no_number b.0 (45 ∷ (decimal_text a.0 ++ x)) y refl (ap (drop 5) e)
 
 -- a verdict's name begins with a space
-name_apart : (n : ℕ) (x : List ℕ) → Apart (verdict_name n ++ x)
-unfolding verdict_name passes
-name_apart n x =
-    begins_apart (verdict_name n) x (eqb-true (get_or (verdict_name n) 0 0) 32 (each_name (λ (text : List ℕ). eqb (get_or text 0 0) 32) refl refl n))
+name_apart : (v : Verdict) (x : List ℕ) → Apart (verdict_name v ++ x)
+unfolding passes
+name_apart v x =
+    begins_apart (verdict_name v) x (eqb-true (get_or (verdict_name v) 0 0) 32 (each_name (λ (text : List ℕ). eqb (get_or text 0 0) 32) refl v))
 
 outcome_tells : Tells OutcomeFits Apart outcome_text
 outcome_tells = record { tell = by }
   where
-    by : (o u : Outcome) (x y : List ℕ) → OutcomeFits o → OutcomeFits u → Apart x → Apart y → outcome_text o ++ x ≡ outcome_text u ++ y → (o ≡ u) × (x ≡ y)
-    by outcome.None outcome.None x y p q s t e = (refl, ap (drop 15) e)
-    by (outcome.Given v) (outcome.Given w) x y p q s t e =
-        let same = number.tell v.0 w.0 (verdict_name v.0 ++ x) (verdict_name w.0 ++ y) p q (name_apart v.0 x) (name_apart w.0 y)
-        (inner (decimal_text v.0) (verdict_name v.0) x (decimal_text w.0) (verdict_name w.0) y (ap (drop 9) e)) in
-        (ap (λ (n : ℕ). outcome.Given (record { 0 = n })) same.0, cancel (verdict_name v.0) x y (same.1 ∙ ap (λ (n : ℕ). verdict_name n ++ y) (sym same.0)))
-    by outcome.None (outcome.Given w) x y p q s t e =
-        no_number w.0 (text_of "- none" ++ x) (verdict_name w.0 ++ y) refl (ap (drop 9) e ∙ append_assoc (decimal_text w.0) (verdict_name w.0) y)
-    by (outcome.Given v) outcome.None x y p q s t e =
-        no_number v.0 (text_of "- none" ++ y) (verdict_name v.0 ++ x) refl (sym (ap (drop 9) e) ∙ append_assoc (decimal_text v.0) (verdict_name v.0) x)
+    by : (o u : Option Verdict) (x y : List ℕ) → OutcomeFits o → OutcomeFits u → Apart x → Apart y → outcome_text o ++ x ≡ outcome_text u ++ y → (o ≡ u) × (x ≡ y)
+    by None None x y p q s t e = (refl, ap (drop 15) e)
+    by (Some v) (Some w) x y p q s t e =
+        let same = number.tell (number_of v) (number_of w) (verdict_name v ++ x) (verdict_name w ++ y) p q (name_apart v x) (name_apart w y)
+        (inner (decimal_text (number_of v)) (verdict_name v) x (decimal_text (number_of w)) (verdict_name w) y (ap (drop 9) e)) in
+        let one : v ≡ w = same_verdict v w same.0 in
+        (ap Some one, append_cancel_left (verdict_name v) x y (same.1 ∙ ap (λ (u : Verdict). verdict_name u ++ y) (sym one)))
+    by None (Some w) x y p q s t e =
+        no_number (number_of w) (text_of "- none" ++ x) (verdict_name w ++ y) refl (ap (drop 9) e ∙ append_assoc (decimal_text (number_of w)) (verdict_name w) y)
+    by (Some v) None x y p q s t e =
+        no_number (number_of v) (text_of "- none" ++ y) (verdict_name v ++ x) refl (sym (ap (drop 9) e) ∙ append_assoc (decimal_text (number_of v)) (verdict_name v) x)
 
 -- ---- an entry
 
@@ -247,14 +245,14 @@ statuses_begins statuses.None = refl
 statuses_begins (statuses.One first) = refl
 statuses_begins (statuses.Two first second) = refl
 
-gap_begins : (g : Gap) → Begins (gap_text g)
-gap_begins gap.None = refl
-gap_begins (gap.Apart ticks) = refl
-gap_begins (gap.Overlap ticks) = refl
+gap_begins : (g : Option Gap) → Begins (gap_text g)
+gap_begins None = refl
+gap_begins (Some (gap.Apart ticks)) = refl
+gap_begins (Some (gap.Overlap ticks)) = refl
 
-outcome_begins : (o : Outcome) → Begins (outcome_text o)
-outcome_begins outcome.None = refl
-outcome_begins (outcome.Given verdict) = refl
+outcome_begins : (o : Option Verdict) → Begins (outcome_text o)
+outcome_begins None = refl
+outcome_begins (Some verdict) = refl
 
 -- what follows a part that begins with a space
 front : (a b x : List ℕ) → Begins a → Apart ((a ++ b) ++ x)

@@ -1,6 +1,6 @@
 -- docs/LINES.md, "busdump FILE..": the line of an entry (02 a and i). "Times and gaps are whole ticks .., words four hexadecimal capitals, and `-` is none."; "fields in a fixed
 -- order, `key=value`, one space apart". Assumes nothing.
-use Rattle.std.specs.Prelude.{ℕ, Bool, true, false, cond, not, ◌||◌, List, [], ◌∷◌, ◌++◌, eqb, get_or}
+use Rattle.std.specs.Prelude.{ℕ, Bool, true, false, cond, not, ◌||◌, List, [], ◌∷◌, ◌++◌, eqb, get_or, Option, None, Some}
 use Rattle.words.specs.Words.{address_of, subaddress_of, count_of, words_of, is_transmit, is_broadcast, is_mode, parity_of}
 use Rattle.records.specs.declared.forms.WordRecord.{WordRecord}
 use Rattle.monitor.specs.declared.entries.Commands.{Commands}
@@ -9,8 +9,8 @@ use Rattle.monitor.specs.declared.entries.Statuses.{Statuses}
 use Rattle.monitor.specs.declared.entries.Statuses.TheVariants as statuses
 use Rattle.monitor.specs.declared.entries.Gap.{Gap}
 use Rattle.monitor.specs.declared.entries.Gap.TheVariants as gap
-use Rattle.monitor.specs.declared.entries.Outcome.{Outcome}
-use Rattle.monitor.specs.declared.entries.Outcome.TheVariants as outcome
+use Rattle.verdict.specs.Numbers.{number_of}
+use Rattle.verdict.specs.declared.verdicts.Verdict.{Verdict}
 use Rattle.monitor.specs.declared.entries.Message.{Message}
 use Rattle.monitor.specs.declared.entries.Entry.{Entry}
 use Rattle.monitor.specs.declared.entries.Entry.TheVariants as entry
@@ -42,10 +42,10 @@ statuses_text (statuses.One first) = text_of " st=" ++ word_text first.0
 statuses_text (statuses.Two first second) = text_of " st=" ++ pair_text first.0 second.0
 
 -- "the gap before the first status (.. below 0 where it comes earlier than that)"
-abbrev pub gap_text : Gap → List ℕ
-gap_text gap.None = text_of " gap=-"
-gap_text (gap.Apart ticks) = number_text (text_of " gap=") ticks.0
-gap_text (gap.Overlap ticks) = number_text (text_of " gap=-") ticks.0
+abbrev pub gap_text : Option Gap → List ℕ
+gap_text None = text_of " gap=-"
+gap_text (Some (gap.Apart ticks)) = number_text (text_of " gap=") ticks.0
+gap_text (Some (gap.Overlap ticks)) = number_text (text_of " gap=-") ticks.0
 
 -- "Verdicts: 0 good, 1 no-response, 2 waiting, 3 early, 4 late, 5 invalid, 6 sync, 7 address, 8 error, 9 busy, 10 spacing .., 11 left-over, 12 overlap"
 abbrev pub verdict_names : List (List ℕ)
@@ -53,13 +53,13 @@ verdict_names =
     text_of " good" ∷ text_of " no-response" ∷ text_of " waiting" ∷ text_of " early" ∷ text_of " late" ∷ text_of " invalid" ∷ text_of " sync" ∷ text_of " address"
     ∷ text_of " error" ∷ text_of " busy" ∷ text_of " spacing" ∷ text_of " left-over" ∷ text_of " overlap" ∷ []
 
-unfoldable pub verdict_name : ℕ → List ℕ
-verdict_name number = get_or verdict_names number (text_of " unnamed")
+unfoldable pub verdict_name : Verdict → List ℕ
+verdict_name verdict = get_or verdict_names (number_of verdict) []
 
 -- "and the verdict"; "`- none` where the commands are an impossible plan, .."
-abbrev pub outcome_text : Outcome → List ℕ
-outcome_text outcome.None = text_of " verdict=- none"
-outcome_text (outcome.Given verdict) = number_text (text_of " verdict=") verdict.0 ++ verdict_name verdict.0
+abbrev pub outcome_text : Option Verdict → List ℕ
+outcome_text None = text_of " verdict=- none"
+outcome_text (Some verdict) = number_text (text_of " verdict=") (number_of verdict) ++ verdict_name verdict
 
 -- "how many valid data words and how many records it has"
 abbrev pub counts_text : ℕ → ℕ → List ℕ

@@ -1,10 +1,10 @@
 -- docs/LINES.md, "busdump FILE..": the lines that close a log, and which entries are shown (02 a). Assumes nothing.
-use Rattle.std.specs.Prelude.{ℕ, Bool, false, not, ◌&&◌, ◌||◌, List, ◌++◌, eqb, leb}
+use Rattle.std.specs.Prelude.{ℕ, Bool, true, false, not, ◌&&◌, ◌||◌, List, ◌++◌, eqb, leb, Option, None, Some, is_none}
 use Rattle.words.specs.Words.{address_of}
 use Rattle.monitor.specs.declared.entries.Commands.{Commands}
 use Rattle.monitor.specs.declared.entries.Commands.TheVariants as commands
-use Rattle.monitor.specs.declared.entries.Outcome.{Outcome}
-use Rattle.monitor.specs.declared.entries.Outcome.TheVariants as outcome
+use Rattle.verdict.specs.Numbers.{number_of}
+use Rattle.verdict.specs.declared.verdicts.Verdict.{Verdict}
 use Rattle.monitor.specs.declared.entries.Entry.{Entry}
 use Rattle.monitor.specs.declared.entries.Entry.TheVariants as entry
 use Rattle.lines.specs.Spells.{text_of, number_text}
@@ -22,9 +22,14 @@ log_refused_text refusal place byte entries =
 
 -- ---- "They narrow what is shown and nothing else: .. a message is shown whole or not at all."
 
+-- A number is the one that is asked for, where one is.
+abbrev pub is_asked : Option ℕ → ℕ → Bool
+is_asked None number = true
+is_asked (Some wanted) number = eqb number wanted
+
 -- "`-b A` or `-b B`: only that bus."
 abbrev pub is_on_bus : Wanted → ℕ → Bool
-is_on_bus w bus = not w.has_bus || eqb bus w.bus
+is_on_bus w bus = is_asked w.bus bus
 
 -- "`-f FROM` and `-t TO`: only entries of which the first record's time is at least FROM, and at most TO."
 abbrev pub is_within : Wanted → ℕ → Bool
@@ -32,19 +37,19 @@ is_within w time = leb w.from time && leb time w.to
 
 -- "`-a ADDRESS`: only messages with a command word to that address"
 abbrev pub is_to : Wanted → ℕ → Bool
-is_to w command = not w.has_address || eqb (address_of command) w.address
+is_to w command = is_asked w.address (address_of command)
 
 abbrev pub is_any_to : Wanted → Commands → Bool
 is_any_to w (commands.One first) = is_to w first.0
 is_any_to w (commands.Two first second) = is_to w first.0 || is_to w second.0
 
 -- the verdict is 0
-abbrev pub is_good : Outcome → Bool
-is_good outcome.None = false
-is_good (outcome.Given verdict) = eqb verdict.0 0
+abbrev pub is_good : Option Verdict → Bool
+is_good None = false
+is_good (Some verdict) = eqb (number_of verdict) 0
 
 -- "`-e`: only what is to be looked at: every message whose verdict is not 0, `- none` too, and every `one`."; "Several narrow together."; "a `one` has no command word."
 abbrev pub is_shown : Wanted → Entry → Bool
 is_shown w (entry.Message m) =
     is_on_bus w m.bus && is_within w m.time.0 && is_any_to w m.commands && not (w.only_bad && is_good m.outcome)
-is_shown w (entry.Single r) = is_on_bus w r.bus && is_within w r.time.0 && not w.has_address
+is_shown w (entry.Single r) = is_on_bus w r.bus && is_within w r.time.0 && is_none w.address

@@ -1,5 +1,5 @@
 -- What holds of the texts of lines beyond each function's own promise. Each is proved in proofs/ under the name at its side. Assumes nothing.
-use Rattle.std.specs.Prelude.{ℕ, ◌^◌, ◌≤◌, ◌<◌, ◌≡◌, Bool, true, false, not, ◌&&◌, List, [], ◌∷◌, ◌++◌, eqb, leb, length, get_or, take}
+use Rattle.std.specs.Prelude.{ℕ, ◌^◌, ◌≤◌, ◌<◌, ◌≡◌, Bool, true, false, not, ◌&&◌, List, [], ◌∷◌, ◌++◌, eqb, leb, length, get_or, take, Option, None, Some}
 use Rattle.words.specs.Words.{is_valid}
 use Rattle.words.specs.declared.times.Moment.{Moment}
 use Rattle.records.specs.Records.{last_bus, in_range}
@@ -12,8 +12,9 @@ use Rattle.monitor.specs.declared.entries.Statuses.{Statuses}
 use Rattle.monitor.specs.declared.entries.Statuses.TheVariants as statuses
 use Rattle.monitor.specs.declared.entries.Gap.{Gap}
 use Rattle.monitor.specs.declared.entries.Gap.TheVariants as gap
-use Rattle.monitor.specs.declared.entries.Outcome.{Outcome}
-use Rattle.monitor.specs.declared.entries.Outcome.TheVariants as outcome
+use Rattle.verdict.specs.Numbers.{number_of}
+use Rattle.verdict.specs.declared.verdicts.Verdict.{Verdict}
+use Rattle.verdict.specs.declared.verdicts.Verdict.TheVariants as verdict
 use Rattle.monitor.specs.declared.entries.Message.{Message}
 use Rattle.monitor.specs.declared.entries.Entry.{Entry}
 use Rattle.monitor.specs.declared.entries.Entry.TheVariants as entry
@@ -44,14 +45,14 @@ StatusesFit statuses.None = Unit {0}
 StatusesFit (statuses.One first) = Word first.0
 StatusesFit (statuses.Two first second) = Word first.0 × Word second.0
 
-abbrev pub GapFits : Gap → Type 0
-GapFits gap.None = Unit {0}
-GapFits (gap.Apart ticks) = Number ticks.0
-GapFits (gap.Overlap ticks) = Number ticks.0
+abbrev pub GapFits : Option Gap → Type 0
+GapFits None = Unit {0}
+GapFits (Some (gap.Apart ticks)) = Number ticks.0
+GapFits (Some (gap.Overlap ticks)) = Number ticks.0
 
-abbrev pub OutcomeFits : Outcome → Type 0
-OutcomeFits outcome.None = Unit {0}
-OutcomeFits (outcome.Given verdict) = Number verdict.0
+abbrev pub OutcomeFits : Option Verdict → Type 0
+OutcomeFits None = Unit {0}
+OutcomeFits (Some verdict) = Number (number_of verdict)
 
 pub record MessageFits (m : Message) : Type 0 where
   pub time : Number m.time.0
@@ -144,11 +145,11 @@ pub record EachLineKept : Type 0 where
 
 -- ---- the lines that docs/LINES.md shows, each with what it says
 
-abbrev pub in_time : Gap
-in_time = gap.Apart (record { 0 = 80 })
+abbrev pub in_time : Option Gap
+in_time = Some (gap.Apart (record { 0 = 80 }))
 
-abbrev pub good : Outcome
-good = outcome.Given (record { 0 = 0 })
+abbrev pub good : Option Verdict
+good = Some verdict.Good
 
 abbrev pub to_one_entry : Entry
 to_one_entry =
@@ -191,8 +192,8 @@ impossible =
       statuses = statuses.None;
       words = 0;
       records = 1;
-      gap = gap.None;
-      outcome = outcome.None;
+      gap = None;
+      outcome = None;
     })
 
 -- Lines of the document, one of each kind of `busdump` and `bussave`: line_examples
@@ -204,7 +205,7 @@ pub record LineExamples : Type 0 where
   pub log_end : log_end_text 4 12 ≡ text_of "# end entries=4 records=12"
   pub log_refused : log_refused_text 8 0 0 0 ≡ text_of "# refused 8 record=0 byte=0 entries=0"
   pub run : run_text (record { place = 113; length = 25 }) ≡ text_of "skip byte=113 length=25"
-  pub save_end : (last : Run) → save_end_text (record { first = first.Kept; run = last; records = 26; skipped = 49; bytes = 466 }) ≡ text_of "# end first=kept records=26 skipped=49 bytes=466"
+  pub save_end : (last : Option Run) → save_end_text (record { first = first.Kept; run = last; records = 26; skipped = 49; bytes = 466 }) ≡ text_of "# end first=kept records=26 skipped=49 bytes=466"
 
 -- "`-v` adds the fields of the command words to each message: ..", ".. To each `one` it adds what is bad in its word": added_examples
 pub record AddedExamples : Type 0 where

@@ -1,6 +1,6 @@
 // The lines that close a log, and those of a saving: what was skipped, and how it ended (02 a, c; docs/LINES.md). Meaning: specs/Logs.antt, specs/Saves.antt. Refusals: none.
-ghost use Rattle.std.specs.Prelude.{◌≡◌, true, ◌+◌, ◌≤◌};
-ghost use Rattle.lines.specs.Sinks.{block_bytes};
+ghost use Rattle.std.specs.Prelude.{◌≡◌, ◌+◌, ◌≤◌};
+ghost use Rattle.lines.specs.Sinks.{Goes, block_bytes};
 ghost use Rattle.lines.specs.Spells.{Spelled, place_after_line, block_after_line};
 ghost use Rattle.texts.specs.Entries.{line_of};
 ghost use Rattle.texts.specs.Logs.{log_end_text, log_refused_text};
@@ -20,12 +20,11 @@ fn spell_log_end(block: &mut Block, at: usize, entries: u64, records: u64) -> us
 }
 
 // Gives the sink with the line more that closes a log which was read to its end.
-// Tables: block holds the line where it waits, and is else as before. Refusals: none; `failed` says whether a write has failed.
+// Tables: block holds the line where it waits, and is else as before. Refusals: none; `failure` says whether a write has failed.
 pub fn put_log_end(sink: Sink, block: &mut Block, entries: u64, records: u64) -> Sink
     ensures place { result.at ≡ place_after_line sink.at (line_of (log_end_text entries records)) }
-    ensures file { result.fd ≡ sink.fd }
     ensures block { block.new ≡ block_after_line block.old sink.at (line_of (log_end_text entries records)) }
-    ensures stays { sink.failed ≡ true → result.failed ≡ true }
+    ensures goes { Goes sink result }
 {
     let mut next = sink.with_room(block, LINE_MOST);
     let told = spell_log_end(block, next.at, entries, records);
@@ -33,7 +32,7 @@ pub fn put_log_end(sink: Sink, block: &mut Block, entries: u64, records: u64) ->
     next
 }
 
-// Spells what was refused, and where.
+// Spells what was refused, and where. Any number of a refusal is taken: a type would take fewer.
 fn spell_refused(
     block: &mut Block,
     at: usize,
@@ -46,14 +45,14 @@ fn spell_refused(
     ensures text { Spelled block.old at (log_refused_text refusal place byte entries) block.new result }
     ensures most { result ≤ at + 113 }
 {
-    let refused = spell_number(block, at, b"# refused ", refusal as u64);
+    let refused = spell_number(block, at, b"# refused ", u64::from(refusal));
     let counted = spell_number(block, refused, b" record=", place);
     let found = spell_number(block, counted, b" byte=", byte);
     spell_number(block, found, b" entries=", entries)
 }
 
 // Gives the sink with the line more that closes a log at a record that is refused.
-// Tables: block holds the line where it waits, and is else as before. Refusals: none; `failed` says whether a write has failed.
+// Tables: block holds the line where it waits, and is else as before. Refusals: none; `failure` says whether a write has failed.
 pub fn put_log_refused(
     sink: Sink,
     block: &mut Block,
@@ -63,9 +62,8 @@ pub fn put_log_refused(
     entries: u64,
 ) -> Sink
     ensures place { result.at ≡ place_after_line sink.at (line_of (log_refused_text refusal place byte entries)) }
-    ensures file { result.fd ≡ sink.fd }
     ensures block { block.new ≡ block_after_line block.old sink.at (line_of (log_refused_text refusal place byte entries)) }
-    ensures stays { sink.failed ≡ true → result.failed ≡ true }
+    ensures goes { Goes sink result }
 {
     let mut next = sink.with_room(block, LINE_MOST);
     let told = spell_refused(block, next.at, refusal, place, byte, entries);
@@ -73,7 +71,7 @@ pub fn put_log_refused(
     next
 }
 
-// Spells a run with its line end, or nothing of one that has no byte.
+// Spells a run with its line end, or nothing of one that has no byte: any run is taken.
 fn spell_run(block: &mut Block, at: usize, run: Run) -> usize
     requires { at + 59 ≤ block_bytes }
     ensures text { Spelled block.old at (run_line run) block.new result }
@@ -87,12 +85,11 @@ fn spell_run(block: &mut Block, at: usize, run: Run) -> usize
 }
 
 // Gives the sink with the line of a run of skipped bytes more; one that has no byte has none.
-// Tables: block holds the line where it waits, and is else as before. Refusals: none; `failed` says whether a write has failed.
+// Tables: block holds the line where it waits, and is else as before. Refusals: none; `failure` says whether a write has failed.
 pub fn put_run(sink: Sink, block: &mut Block, run: Run) -> Sink
     ensures place { result.at ≡ place_after_line sink.at (run_line run) }
-    ensures file { result.fd ≡ sink.fd }
     ensures block { block.new ≡ block_after_line block.old sink.at (run_line run) }
-    ensures stays { sink.failed ≡ true → result.failed ≡ true }
+    ensures goes { Goes sink result }
 {
     let mut next = sink.with_room(block, LINE_MOST);
     next.at = spell_run(block, next.at, run);
@@ -117,21 +114,19 @@ fn spell_save_end(block: &mut Block, at: usize, totals: Totals) -> usize
     ensures text { Spelled block.old at (save_end_text totals) block.new result }
     ensures most { result ≤ at + 105 }
 {
-    let first = totals.first;
     let begun = spell_text(block, at, b"# end first=");
-    let judged = spell_first(block, begun, first);
+    let judged = spell_first(block, begun, totals.first);
     let kept = spell_number(block, judged, b" records=", totals.records);
     let skipped = spell_number(block, kept, b" skipped=", totals.skipped);
     spell_number(block, skipped, b" bytes=", totals.bytes)
 }
 
 // Gives the sink with the line more that closes a saving.
-// Tables: block holds the line where it waits, and is else as before. Refusals: none; `failed` says whether a write has failed.
+// Tables: block holds the line where it waits, and is else as before. Refusals: none; `failure` says whether a write has failed.
 pub fn put_save_end(sink: Sink, block: &mut Block, totals: Totals) -> Sink
     ensures place { result.at ≡ place_after_line sink.at (line_of (save_end_text totals)) }
-    ensures file { result.fd ≡ sink.fd }
     ensures block { block.new ≡ block_after_line block.old sink.at (line_of (save_end_text totals)) }
-    ensures stays { sink.failed ≡ true → result.failed ≡ true }
+    ensures goes { Goes sink result }
 {
     let mut next = sink.with_room(block, LINE_MOST);
     let told = spell_save_end(block, next.at, totals);

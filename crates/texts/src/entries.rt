@@ -1,14 +1,13 @@
 // The line of an entry (02 a and i; docs/LINES.md): "Each entry has bus, time, command words, statuses .., numbers of valid data words and of records, the gap before the first
 // status, and the verdict". Meaning: specs/Entries.antt. Inner leaves, each with the most bytes that it takes. Refusals: none.
-ghost use Rattle.std.specs.Prelude.{◌+◌, ◌≤◌, length};
+ghost use Rattle.std.specs.Prelude.{◌+◌, ◌≤◌, Some, length};
 ghost use Rattle.lines.specs.Sinks.{block_bytes};
 ghost use Rattle.lines.specs.Spells.{Spelled};
-ghost use Rattle.monitor.specs.declared.entries.Outcome.TheVariants as outcome;
 ghost use Rattle.texts.specs.Entries.{bus_text, begin_text, pair_text, commands_text, statuses_text, gap_text, verdict_name, outcome_text, counts_text, message_text, single_text};
 ghost use Rattle.texts.specs.Entries.{address_text, direction_text, kind_text, fields_text, all_fields_text};
 
 use lines::{Block, spell_byte, spell_decimal, spell_number, spell_text, spell_word};
-use monitor::{Commands, Gap, Message, Outcome, Statuses};
+use monitor::{Commands, Gap, Message, Statuses};
 use records::WordRecord;
 use verdict::Verdict;
 use words::{CommandWord, Moment};
@@ -78,60 +77,61 @@ fn spell_statuses(block: &mut Block, at: usize, statuses: Statuses) -> usize
 }
 
 // Spells the gap: a status that overlaps the word before it has one below 0.
-fn spell_gap(block: &mut Block, at: usize, gap: Gap) -> usize
+fn spell_gap(block: &mut Block, at: usize, gap: Option<Gap>) -> usize
     requires { at + 26 ≤ block_bytes }
     ensures text { Spelled block.old at (gap_text gap) block.new result }
     ensures most { result ≤ at + 26 }
 {
     match gap {
-        Gap::None => spell_text(block, at, b" gap=-"),
-        Gap::Apart(ticks) => spell_number(block, at, b" gap=", ticks.0),
-        Gap::Overlap(ticks) => spell_number(block, at, b" gap=-", ticks.0),
+        None => spell_text(block, at, b" gap=-"),
+        Some(Gap::Apart(ticks)) => spell_number(block, at, b" gap=", ticks.0),
+        Some(Gap::Overlap(ticks)) => spell_number(block, at, b" gap=-", ticks.0),
     }
 }
 
-// Spells the name of a verdict, 0 to Verdict::LAST.
-fn spell_name(block: &mut Block, at: usize, number: u8) -> usize
+// Spells the name of a verdict. Each is a text of its own length here: one that a method of the verdict gave would be copied by a length that is not known.
+#[tactic(auto, unfolding(crate::specs::Entries::verdict_name))]
+fn spell_name(block: &mut Block, at: usize, verdict: Verdict) -> usize
     requires { at + 12 ≤ block_bytes }
-    ensures text { Spelled block.old at (verdict_name number) block.new result }
+    ensures text { Spelled block.old at (verdict_name verdict) block.new result }
     ensures most { result ≤ at + 12 }
 {
-    match number {
-        0 => spell_text(block, at, b" good"),
-        1 => spell_text(block, at, b" no-response"),
-        2 => spell_text(block, at, b" waiting"),
-        3 => spell_text(block, at, b" early"),
-        4 => spell_text(block, at, b" late"),
-        5 => spell_text(block, at, b" invalid"),
-        6 => spell_text(block, at, b" sync"),
-        7 => spell_text(block, at, b" address"),
-        8 => spell_text(block, at, b" error"),
-        9 => spell_text(block, at, b" busy"),
-        10 => spell_text(block, at, b" spacing"),
-        11 => spell_text(block, at, b" left-over"),
-        12 => spell_text(block, at, b" overlap"),
-        _ => spell_text(block, at, b" unnamed"),
+    match verdict {
+        Verdict::Good => spell_text(block, at, b" good"),
+        Verdict::NoResponse => spell_text(block, at, b" no-response"),
+        Verdict::Waiting => spell_text(block, at, b" waiting"),
+        Verdict::Early => spell_text(block, at, b" early"),
+        Verdict::Late => spell_text(block, at, b" late"),
+        Verdict::NotValid => spell_text(block, at, b" invalid"),
+        Verdict::WrongSync => spell_text(block, at, b" sync"),
+        Verdict::WrongAddress => spell_text(block, at, b" address"),
+        Verdict::MessageError => spell_text(block, at, b" error"),
+        Verdict::Busy => spell_text(block, at, b" busy"),
+        Verdict::Separated => spell_text(block, at, b" spacing"),
+        Verdict::LeftOver => spell_text(block, at, b" left-over"),
+        Verdict::Overlapping => spell_text(block, at, b" overlap"),
     }
 }
 
 // Spells the number and the name of a verdict.
 fn spell_verdict(block: &mut Block, at: usize, verdict: Verdict) -> usize
     requires { at + 41 ≤ block_bytes }
-    ensures text { Spelled block.old at (outcome_text (outcome.Given verdict)) block.new result }
+    ensures text { Spelled block.old at (outcome_text (Some verdict)) block.new result }
     ensures most { result ≤ at + 41 }
 {
-    let numbered = spell_number(block, at, b" verdict=", verdict.0 as u64);
-    spell_name(block, numbered, verdict.0)
+    let number = u64::from(verdict.number());
+    let numbered = spell_number(block, at, b" verdict=", number);
+    spell_name(block, numbered, verdict)
 }
 
-fn spell_outcome(block: &mut Block, at: usize, outcome: Outcome) -> usize
+fn spell_outcome(block: &mut Block, at: usize, outcome: Option<Verdict>) -> usize
     requires { at + 41 ≤ block_bytes }
     ensures text { Spelled block.old at (outcome_text outcome) block.new result }
     ensures most { result ≤ at + 41 }
 {
     match outcome {
-        Outcome::None => spell_text(block, at, b" verdict=- none"),
-        Outcome::Given(verdict) => spell_verdict(block, at, verdict),
+        None => spell_text(block, at, b" verdict=- none"),
+        Some(verdict) => spell_verdict(block, at, verdict),
     }
 }
 
@@ -151,17 +151,13 @@ pub(crate) fn spell_message(block: &mut Block, at: usize, message: Message) -> u
     ensures text { Spelled block.old at (message_text message) block.new result }
     ensures most { result ≤ at + 171 }
 {
-    let commands = message.commands;
-    let statuses = message.statuses;
-    let gap = message.gap;
-    let outcome = message.outcome;
     let begun = spell_begin(block, at, message.time, message.bus);
     let named = spell_text(block, begun, b" msg cmd=");
-    let commanded = spell_commands(block, named, commands);
-    let answered = spell_statuses(block, commanded, statuses);
+    let commanded = spell_commands(block, named, message.commands);
+    let answered = spell_statuses(block, commanded, message.statuses);
     let counted = spell_counts(block, answered, message.words, message.records);
-    let spaced = spell_gap(block, counted, gap);
-    spell_outcome(block, spaced, outcome)
+    let spaced = spell_gap(block, counted, message.gap);
+    spell_outcome(block, spaced, message.outcome)
 }
 
 // Spells a record outside any message.

@@ -1,6 +1,6 @@
 // The line of an entry put into a sink: room is asked once, then the text is spelled in its place, and the line's end. Meaning: specs/Entries.antt. Refusals: none.
-ghost use Rattle.std.specs.Prelude.{◌≡◌, true, ◌+◌, ◌≤◌, length};
-ghost use Rattle.lines.specs.Sinks.{block_bytes, place_after, block_after};
+ghost use Rattle.std.specs.Prelude.{◌≡◌, ◌+◌, ◌≤◌, length};
+ghost use Rattle.lines.specs.Sinks.{Goes, block_bytes, place_after, block_after};
 ghost use Rattle.lines.specs.Spells.{Spelled};
 ghost use Rattle.monitor.specs.declared.entries.Entry.TheVariants as entry;
 ghost use Rattle.texts.specs.Entries.{entry_text, line_of};
@@ -20,10 +20,9 @@ fn spell_message_with(block: &mut Block, at: usize, message: Message, added: boo
     ensures text { Spelled block.old at (entry_text added (entry.Message message)) block.new result }
     ensures most { result ≤ at + 339 }
 {
-    let commands = message.commands;
     let told = spell_message(block, at, message);
     if added {
-        return spell_all_fields(block, told, commands);
+        return spell_all_fields(block, told, message.commands);
     }
     told
 }
@@ -66,9 +65,8 @@ fn spell_line(block: &mut Block, at: usize, entry: Entry, added: bool) -> usize
 // Puts the line of an entry that the block may have no room for: it is spelled apart, and put as any text.
 fn put_apart(sink: Sink, block: &mut Block, entry: Entry, added: bool) -> Sink
     ensures place { result.at ≡ place_after sink.at (length (line_of (entry_text added entry))) }
-    ensures file { result.fd ≡ sink.fd }
     ensures block { block.new ≡ block_after block.old sink.at (line_of (entry_text added entry)) }
-    ensures stays { sink.failed ≡ true → result.failed ≡ true }
+    ensures goes { Goes sink result }
 {
     let mut line = io::large_buffer();
     let end = spell_line(&mut line, 0, entry, added);
@@ -77,12 +75,11 @@ fn put_apart(sink: Sink, block: &mut Block, entry: Entry, added: bool) -> Sink
 
 // Gives the sink with the line of an entry more; `added` says whether the fields of its command words, or what is bad in its word, are asked for. Where the block has room for
 // the longest line, it is spelled in its place.
-// Tables: block holds the line where it waits, and is else as before. Refusals: none; `failed` says whether a write has failed.
+// Tables: block holds the line where it waits, and is else as before. Refusals: none; `failure` says whether a write has failed.
 pub fn put_entry(sink: Sink, block: &mut Block, entry: Entry, added: bool) -> Sink
     ensures place { result.at ≡ place_after sink.at (length (line_of (entry_text added entry))) }
-    ensures file { result.fd ≡ sink.fd }
     ensures block { block.new ≡ block_after block.old sink.at (line_of (entry_text added entry)) }
-    ensures stays { sink.failed ≡ true → result.failed ≡ true }
+    ensures goes { Goes sink result }
 {
     if sink.at > LAST_PLACE {
         return put_apart(sink, block, entry, added);

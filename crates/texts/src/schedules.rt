@@ -1,6 +1,6 @@
 // The lines of a schedule: its messages, its frames, and how the check ended (02 j; docs/LINES.md). Meaning: specs/Schedules.antt. Refusals: none.
-ghost use Rattle.std.specs.Prelude.{◌≡◌, true, ◌+◌, ◌≤◌};
-ghost use Rattle.lines.specs.Sinks.{block_bytes};
+ghost use Rattle.std.specs.Prelude.{◌≡◌, ◌+◌, ◌≤◌};
+ghost use Rattle.lines.specs.Sinks.{Goes, block_bytes};
 ghost use Rattle.lines.specs.Spells.{Spelled, place_after_line, block_after_line};
 ghost use Rattle.texts.specs.Entries.{line_of};
 ghost use Rattle.texts.specs.Schedules.{brief_text, words_text, planned_text, slot_text, frame_text, closing_text};
@@ -37,14 +37,12 @@ pub(crate) fn spell_words(block: &mut Block, at: usize, between: u8, message: Me
     ensures text { Spelled block.old at (words_text between message) block.new result }
     ensures most { result ≤ at + 9 }
 {
-    let first = message.first;
-    let second = message.second;
+    let begun = spell_word(block, at, message.first.0);
     if message.commands == 1 {
-        return spell_word(block, at, first.0);
+        return begun;
     }
-    let begun = spell_word(block, at, first.0);
     let parted = spell_byte(block, begun, between);
-    spell_word(block, parted, second.0)
+    spell_word(block, parted, message.second.0)
 }
 
 // Spells the command words and the period of a message.
@@ -79,7 +77,7 @@ fn spell_slot(
 }
 
 // Gives the sink with the line of a message more; `added` says whether its command words and its period are asked for.
-// Tables: block holds the line where it waits, and is else as before. Refusals: none; `failed` says whether a write has failed.
+// Tables: block holds the line where it waits, and is else as before. Refusals: none; `failure` says whether a write has failed.
 pub fn put_slot(
     sink: Sink,
     block: &mut Block,
@@ -89,9 +87,8 @@ pub fn put_slot(
     first: u64,
 ) -> Sink
     ensures place { result.at ≡ place_after_line sink.at (line_of (slot_text added number message first)) }
-    ensures file { result.fd ≡ sink.fd }
     ensures block { block.new ≡ block_after_line block.old sink.at (line_of (slot_text added number message first)) }
-    ensures stays { sink.failed ≡ true → result.failed ≡ true }
+    ensures goes { Goes sink result }
 {
     let mut next = sink.with_room(block, LINE_MOST);
     let told = spell_slot(block, next.at, added, number, message, first);
@@ -111,12 +108,11 @@ fn spell_frame(block: &mut Block, at: usize, number: u64, load: u64, capacity: u
 }
 
 // Gives the sink with the line of a frame more.
-// Tables: block holds the line where it waits, and is else as before. Refusals: none; `failed` says whether a write has failed.
+// Tables: block holds the line where it waits, and is else as before. Refusals: none; `failure` says whether a write has failed.
 pub fn put_frame(sink: Sink, block: &mut Block, number: u64, load: u64, capacity: u64) -> Sink
     ensures place { result.at ≡ place_after_line sink.at (line_of (frame_text number load capacity)) }
-    ensures file { result.fd ≡ sink.fd }
     ensures block { block.new ≡ block_after_line block.old sink.at (line_of (frame_text number load capacity)) }
-    ensures stays { sink.failed ≡ true → result.failed ≡ true }
+    ensures goes { Goes sink result }
 {
     let mut next = sink.with_room(block, LINE_MOST);
     let told = spell_frame(block, next.at, number, load, capacity);
@@ -136,19 +132,21 @@ fn spell_closing(block: &mut Block, at: usize, closing: Closing) -> usize
         Closing::RejectedMessage(number) => {
             spell_number(block, at, b"# rejected message=", number)
         }
-        Closing::Refused(refusal) => spell_number(block, at, b"# refused ", refusal.0 as u64),
+        Closing::Refused(refusal) => {
+            let number = u64::from(refusal.number());
+            spell_number(block, at, b"# refused ", number)
+        }
         Closing::NoSchedule => spell_text(block, at, b"# none"),
         Closing::BadLine(line) => spell_number(block, at, b"# error line=", line),
     }
 }
 
 // Gives the sink with the line more that says how it ended.
-// Tables: block holds the line where it waits, and is else as before. Refusals: none; `failed` says whether a write has failed.
+// Tables: block holds the line where it waits, and is else as before. Refusals: none; `failure` says whether a write has failed.
 pub fn put_closing(sink: Sink, block: &mut Block, closing: Closing) -> Sink
     ensures place { result.at ≡ place_after_line sink.at (line_of (closing_text closing)) }
-    ensures file { result.fd ≡ sink.fd }
     ensures block { block.new ≡ block_after_line block.old sink.at (line_of (closing_text closing)) }
-    ensures stays { sink.failed ≡ true → result.failed ≡ true }
+    ensures goes { Goes sink result }
 {
     let mut next = sink.with_room(block, LINE_MOST);
     let told = spell_closing(block, next.at, closing);

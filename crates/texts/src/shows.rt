@@ -3,8 +3,9 @@ ghost use Rattle.std.specs.Prelude.{◌≡◌, ◌&&◌};
 ghost use Rattle.monitor.specs.declared.entries.Entry.TheVariants as entry;
 ghost use Rattle.texts.specs.Logs.{is_on_bus, is_within, is_to, is_any_to, is_good, is_shown};
 
-use monitor::{Commands, Entry, Message, Outcome};
+use monitor::{Commands, Entry, Message};
 use records::WordRecord;
+use verdict::Verdict;
 use words::CommandWord;
 
 // What is asked for: entries that begin from a time on up to another; of an address, of a bus, where one is given; and whether only those that are to be looked at.
@@ -12,21 +13,16 @@ use words::CommandWord;
 pub struct Wanted {
     pub from: u64,
     pub to: u64,
-    pub address: u64,
-    pub bus: u8,
-    pub has_address: bool,
-    pub has_bus: bool,
+    pub address: Option<u64>,
+    pub bus: Option<u8>,
     pub only_bad: bool,
 }
 
 // Says whether the verdict is 0.
-fn is_good(outcome: Outcome) -> bool
+fn is_good(outcome: Option<Verdict>) -> bool
     ensures answer { result ≡ is_good outcome }
 {
-    match outcome {
-        Outcome::None => false,
-        Outcome::Given(verdict) => verdict.0 == 0,
-    }
+    matches!(outcome, Some(Verdict::Good))
 }
 
 impl Wanted {
@@ -34,14 +30,16 @@ impl Wanted {
     fn covers(self, bus: u8, time: u64) -> bool
         ensures answer { result ≡ is_on_bus self bus && is_within self time }
     {
-        (!self.has_bus | (bus == self.bus)) & ((self.from <= time) & (time <= self.to))
+        let on_bus = self.bus.map_or(true, |wanted| bus == wanted);
+        on_bus & ((self.from <= time) & (time <= self.to))
     }
 
     // Says whether a message with that command word is asked for.
     fn concerns(self, command: CommandWord) -> bool
         ensures answer { result ≡ is_to self command.0 }
     {
-        !self.has_address | (command.address() as u64 == self.address)
+        let address = u64::from(command.address());
+        self.address.map_or(true, |wanted| address == wanted)
     }
 
     fn concerns_any(self, commands: Commands) -> bool
@@ -56,17 +54,15 @@ impl Wanted {
     fn shows_message(self, message: Message) -> bool
         ensures answer { result ≡ is_shown self (entry.Message message) }
     {
-        let commands = message.commands;
-        let outcome = message.outcome;
-        let hides = self.only_bad & is_good(outcome);
-        self.covers(message.bus, message.time.0) & self.concerns_any(commands) & !hides
+        let hides = self.only_bad & is_good(message.outcome);
+        self.covers(message.bus, message.time.0) & self.concerns_any(message.commands) & !hides
     }
 
     // A record outside any message has no command word.
     fn shows_single(self, heard: WordRecord) -> bool
         ensures answer { result ≡ is_shown self (entry.Single heard) }
     {
-        self.covers(heard.bus, heard.time.0) & !self.has_address
+        self.covers(heard.bus, heard.time.0) & self.address.is_none()
     }
 
     // Says whether an entry is shown.

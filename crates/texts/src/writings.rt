@@ -1,9 +1,9 @@
 // The text of a schedule that was accepted, as `-o OUT` writes it (02 j; docs/LINES.md): it is read again as the same schedule (plans' `plan_read_back`). Meaning: plans'
 // specs/Texts.antt. Refusals: none.
-ghost use Rattle.std.specs.Prelude.{◌≡◌, true, [], ◌∷◌, ◌+◌, ◌≤◌, get_or, length};
+ghost use Rattle.std.specs.Prelude.{◌≡◌, [], ◌∷◌, ◌+◌, ◌≤◌, get_or, length};
 ghost use Rattle.schedule.specs.Frames.{placed_of};
 ghost use Rattle.schedule.specs.Messages.{messages_in};
-ghost use Rattle.lines.specs.Sinks.{block_bytes, put_at, decimal_text};
+ghost use Rattle.lines.specs.Sinks.{Goes, block_bytes, put_at, decimal_text};
 ghost use Rattle.lines.specs.Spells.{Spelled, room_at};
 ghost use Rattle.plans.specs.Entries.{capacity_text};
 ghost use Rattle.plans.specs.Texts.{line_text, are_all, capacity_lines, capacities_text, message_parts, message_lines, plan_text};
@@ -16,21 +16,12 @@ use schedule::{Frames, Message, Schedule};
 // The most bytes of a plan, with room to spare: 64 lines of capacities and 64 of messages.
 const PLAN_MOST: usize = 8192;
 
-const MESSAGES_MOST: usize = 64;
-
 // Says whether all frames have the capacity of the first.
-fn is_even(capacities: &[u64]) -> bool
-    requires { length capacities.now ≡ 64 }
+fn is_even(capacities: &Frames) -> bool
     ensures answer { result ≡ are_all (get_or capacities.now 0 0) capacities.now }
 {
-    let mut i = 0;
-    while i < 64 {
-        if capacities[i] != capacities[0] {
-            return false;
-        }
-        i += 1;
-    }
-    true
+    let first = capacities[0];
+    capacities.iter().all(|ticks| *ticks == first)
 }
 
 // Spells the capacity of all frames.
@@ -55,25 +46,21 @@ fn spell_capacity_of(block: &mut Block, at: usize, frame: u64, ticks: u64) -> us
 }
 
 // Spells a line for the capacity of each frame.
-fn spell_each_capacity(block: &mut Block, at: usize, capacities: &[u64]) -> usize
-    requires at_bound { at + 3264 ≤ block_bytes }
-    requires capacities_len { length capacities.now ≡ 64 }
+fn spell_each_capacity(block: &mut Block, at: usize, capacities: &Frames) -> usize
+    requires { at + 3264 ≤ block_bytes }
     ensures text { Spelled block.old at (capacity_lines 0 capacities.now) block.new result }
     ensures most { result ≤ at + 3264 }
 {
     let mut place = spell_text(block, at, b"");
-    let mut i: usize = 0;
-    while i < 64 {
-        place = spell_capacity_of(block, place, i as u64, capacities[i]);
-        i += 1;
+    for (frame, ticks) in capacities.iter().enumerate() {
+        place = spell_capacity_of(block, place, frame as u64, *ticks);
     }
     place
 }
 
 // Spells the capacities, in one line where they are all the same.
-fn spell_capacities(block: &mut Block, at: usize, capacities: &[u64]) -> usize
-    requires at_bound { at + 3264 ≤ block_bytes }
-    requires capacities_len { length capacities.now ≡ 64 }
+fn spell_capacities(block: &mut Block, at: usize, capacities: &Frames) -> usize
+    requires { at + 3264 ≤ block_bytes }
     ensures text { Spelled block.old at (capacities_text capacities.now) block.new result }
     ensures most { result ≤ at + 3264 }
 {
@@ -97,22 +84,17 @@ fn spell_placed(block: &mut Block, at: usize, message: Message, first: u64) -> u
 }
 
 // Spells a line for each message.
-fn spell_messages(block: &mut Block, at: usize, schedule: Schedule, firsts: &[u64]) -> usize
-    requires at_bound { at + 3840 ≤ block_bytes }
-    requires firsts_len { length firsts.now ≡ 64 }
+fn spell_messages(block: &mut Block, at: usize, schedule: Schedule, firsts: &Frames) -> usize
+    requires { at + 3840 ≤ block_bytes }
     ensures text { Spelled block.old at (message_lines (placed_of (messages_in schedule) firsts.now)) block.new result }
     ensures most { result ≤ at + 3840 }
 {
-    let messages = schedule.messages;
-    let count = schedule.count;
     let mut place = spell_text(block, at, b"");
-    let mut i: usize = 0;
-    while i < MESSAGES_MOST {
-        if count <= i as u64 {
+    for (i, message) in schedule.messages.iter().enumerate() {
+        if schedule.count <= i as u64 {
             return place;
         }
-        place = spell_placed(block, place, messages[i], firsts[i]);
-        i += 1;
+        place = spell_placed(block, place, *message, firsts[i]);
     }
     place
 }
@@ -122,12 +104,10 @@ fn spell_plan(
     block: &mut Block,
     at: usize,
     schedule: Schedule,
-    firsts: &[u64],
-    capacities: &[u64],
+    firsts: &Frames,
+    capacities: &Frames,
 ) -> usize
-    requires at_bound { at + 7104 ≤ block_bytes }
-    requires firsts_len { length firsts.now ≡ 64 }
-    requires capacities_len { length capacities.now ≡ 64 }
+    requires { at + 7104 ≤ block_bytes }
     ensures text { Spelled block.old at (plan_text schedule firsts.now capacities.now) block.new result }
 {
     let begun = spell_capacities(block, at, capacities);
@@ -135,7 +115,7 @@ fn spell_plan(
 }
 
 // Gives the sink with the text of a schedule more: its capacities and its messages with their first frames, as a plan is read.
-// Tables: block holds the text where it waits, and is else as before; firsts and capacities are only read. Refusals: none; `failed` says whether a write has failed.
+// Tables: block holds the text where it waits, and is else as before; firsts and capacities are only read. Refusals: none; `failure` says whether a write has failed.
 pub fn put_plan(
     sink: Sink,
     block: &mut Block,
@@ -144,9 +124,8 @@ pub fn put_plan(
     capacities: &Frames,
 ) -> Sink
     ensures place { result.at ≡ room_at sink.at plan_most + length (plan_text schedule firsts.now capacities.now) }
-    ensures file { result.fd ≡ sink.fd }
     ensures block { block.new ≡ put_at block.old (room_at sink.at plan_most) (plan_text schedule firsts.now capacities.now) }
-    ensures stays { sink.failed ≡ true → result.failed ≡ true }
+    ensures goes { Goes sink result }
 {
     let mut next = sink.with_room(block, PLAN_MOST);
     next.at = spell_plan(block, next.at, schedule, firsts, capacities);

@@ -10,7 +10,7 @@ returns-in-None c =
     let spelled = c.spell_text.ensures.text in
     record { text = spelled_as (ap outcome_text (sym c.in-None.is)) spelled; most = omega (arith, spelled.place) }
 
-pub returns-in-Given : goal.returns-in-Given
-returns-in-Given c =
+pub returns-in-Some : goal.returns-in-Some
+returns-in-Some c =
     let spelled = c.spell_verdict.ensures in
-    record { text = spelled_as (ap outcome_text (sym c.in-Given.is)) spelled.text; most = spelled.most }
+    record { text = spelled_as (ap outcome_text (sym c.in-Some.is)) spelled.text; most = spelled.most }

@@ -12,4 +12,4 @@ pub returns : goal.returns
 returns c =
     let line = c.between.ensures.bytes ∙ taken_out _ _ _ _ c.spell_line-end.ensures.text in
     let after = c.put_text.ensures in
-    record { place = after.place ∙ ap (place_after _) (ap length line); file = after.file; block = after.block ∙ ap (block_after _ _) line; stays = after.stays }
+    record { place = after.place ∙ ap (place_after _) (ap length line); block = after.block ∙ ap (block_after _ _) line; goes = after.goes }

@@ -7,4 +7,4 @@ pub returns : goal.returns
 returns c =
     let line = c.spell_line.ensures in
     let room = c.if-sink-gt-LAST_PLACE.false in
-    record { place = behind_place _ _ _ _ _ line.text line.most room; file = refl; block = behind_block _ _ _ _ _ line.text line.most room; stays = λ h. h }
+    record { place = behind_place _ _ _ _ _ line.text line.most room; block = behind_block _ _ _ _ _ line.text line.most room; goes = record { file = refl; stays = λ h. h } }

@@ -20,4 +20,4 @@ returns c =
     let room = c.with_room-next.ensures in
     let told = c.spell_closing-told.ensures in
     let spelled = then told.text c.spell_byte.ensures.text in
-    record { place = line_place _ _ _ _ _ _ room.place spelled; file = room.file; block = line_block _ _ _ _ _ _ room.place spelled; stays = room.stays }
+    record { place = line_place _ _ _ _ _ _ room.place spelled; block = line_block _ _ _ _ _ _ room.place spelled; goes = record { file = room.goes.file; stays = room.goes.stays } }

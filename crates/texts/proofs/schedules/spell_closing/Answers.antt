@@ -1,6 +1,10 @@
 -- The text of each ending. Assumes nothing.
 use native.Mathlib.Omega.{arith}
-use mathlib.Core.Path.{sym, ap}
+use mathlib.Core.Path.{◌≡◌, sym, ap}
+use Rattle.std.proofs.Common.{rules}
+use Rattle.words.specs.Refusals.{number_of}
+use Rattle.lines.specs.Spells.{text_of}
+use Rattle.texts.proofs.Choices.{number_as}
 use Rattle.lines.proofs.Spellings.{spelled_as}
 use Rattle.texts.specs.Schedules.{closing_text}
 use Rattle.texts.proofs.schedules.spell_closing.Goals as goal
@@ -23,7 +27,8 @@ returns-in-RejectedMessage c =
 pub returns-in-Refused : goal.returns-in-Refused
 returns-in-Refused c =
     let spelled = c.spell_number-in-Refused.ensures in
-    record { text = spelled_as (ap closing_text (sym c.in-Refused.is)) spelled.text; most = omega (arith, spelled.most) }
+    let same : c.from-number.result ≡ number_of c.in-Refused.refusal = search rules in
+    record { text = spelled_as (ap closing_text (sym c.in-Refused.is)) (number_as (text_of "# refused ") same spelled.text); most = omega (arith, spelled.most) }
 
 pub returns-in-NoSchedule : goal.returns-in-NoSchedule
 returns-in-NoSchedule c =

@@ -6,12 +6,12 @@ use Rattle.texts.proofs.schedules.spell_words.Goals as goal
 
 pub returns-then-message-eq1 : goal.returns-then-message-eq1
 returns-then-message-eq1 c =
-    let spelled = c.spell_word.ensures.text in
-    record { text = spelled_as (words_one _ _ c.if-message-eq1.true) spelled; most = omega (arith, spelled.place) }
+    let first = c.spell_word-begun.ensures.text in
+    record { text = spelled_as (words_one _ _ c.if-message-eq1.true) first; most = omega (arith, first.place) }
 
 pub returns : goal.returns
 returns c =
     let first = c.spell_word-begun.ensures.text in
-    let mark = c.spell_byte-parted.ensures.text in
-    let second = c.spell_word-2.ensures.text in
-    record { text = spelled_as (words_two _ _ c.if-message-eq1.false) (then first (then mark second)); most = omega (arith, first.place, mark.place, second.place) }
+    let between = c.spell_byte-parted.ensures.text in
+    let second = c.spell_word.ensures.text in
+    record { text = spelled_as (words_two _ _ c.if-message-eq1.false) (then first (then between second)); most = omega (arith, first.place, between.place, second.place) }

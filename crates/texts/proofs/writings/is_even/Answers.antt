@@ -1,24 +1,16 @@
--- Those that were looked at are the same, so that the others say whether all are. Assumes nothing.
-use mathlib.Core.Path.{sym, ◌∙◌}
-use Rattle.texts.proofs.Lines.{same_more, same_not, same_all}
-use borrow.Author.Rules.{rules}
+-- What `all` says of the capacities. Assumes nothing.
+use mathlib.Core.Path.{◌∙◌}
+use Prim.Native.Nat.{ℕ}
+use lib.Dec.{eqb}
+use lib.ListN.{get_or}
+use Rattle.std.proofs.Common.{rules, tests}
+use Rattle.std.proofs.lemmas.Iterator.{YieldsList-from_slice}
+use Rattle.std.proofs.lemmas.Iterator.Search.{all_from_yields_List}
+use Rattle.texts.proofs.Lines.{all_same}
 use Rattle.texts.proofs.writings.is_even.Goals as goal
-
-pub returns-then-capacities-i : goal.returns-then-capacities-i
-returns-then-capacities-i c =
-    record {
-      answer = let loop = c.loop-i in
-          sym (same_not _ _ loop.i (search rules) c.if-capacities-i.true) ∙ loop.invariant.2;
-    }
-
-pub loop-i-preserved : goal.loop-i-preserved
-loop-i-preserved c =
-    let loop = c.loop-i in
-    (search rules, loop.invariant.1, sym (same_more _ _ loop.i (search rules) c.if-capacities-i.false) ∙ loop.invariant.2)
 
 pub returns : goal.returns
 returns c =
-    record {
-      answer = let loop = c.loop-i in
-          sym (same_all _ _ loop.i (search rules)) ∙ loop.invariant.2;
-    }
+    let found =
+    all_from_yields_List (λ (n : ℕ). eqb n (get_or c.args.capacities.now 0 0)) _ _ c.all.result c.all.ensures.ran (YieldsList-from_slice _ c.iter.ensures.rest) (λ x b q k. search (rules, tests)) in
+    record { answer = found ∙ all_same _ _ }

@@ -9,17 +9,17 @@ use Rattle.texts.proofs.writings.spell_messages.Goals as goal
 pub loop-i-init : goal.loop-i-init
 loop-i-init c = (messages_start _ _ _ _ _ _ _ (spelled_none c.spell_text-place.ensures.text), omega arith, omega arith)
 
-pub returns-then-count-i : goal.returns-then-count-i
-returns-then-count-i c =
+pub returns-then-schedule-i : goal.returns-then-schedule-i
+returns-then-schedule-i c =
     let loop = c.loop-i in
     let begin = c.spell_text-place.ensures.text in
-    let rest = messages_end _ _ _ _ _ _ _ _ loop.invariant.1 loop.invariant.2 (inr c.if-count-i.true) loop.invariant.0 in
+    let rest = messages_end _ _ _ _ _ _ _ _ loop.invariant.1 loop.invariant.2 (inr c.if-schedule-i.true) loop.invariant.0 in
     record { text = then begin rest.0; most = omega (arith, begin.place, rest.1) }
 
 pub loop-i-preserved : goal.loop-i-preserved
 loop-i-preserved c =
     let loop = c.loop-i in
-    (messages_more _ _ _ _ _ _ _ _ _ _ _ loop.invariant.1 loop.invariant.2 c.loop-i-test.true c.if-count-i.false loop.invariant.0 (c.spell_placed-place.ensures.text, c.spell_placed-place.ensures.most), loop.invariant.1, loop.invariant.2)
+    (messages_more _ _ _ _ _ _ _ _ _ _ _ loop.invariant.1 loop.invariant.2 c.loop-i-test.true c.if-schedule-i.false loop.invariant.0 (c.spell_placed-place.ensures.text, c.spell_placed-place.ensures.most), loop.invariant.1, loop.invariant.2)
 
 pub returns : goal.returns
 returns c =
