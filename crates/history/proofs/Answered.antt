@@ -25,7 +25,7 @@ use Rattle.terminal.specs.declared.events.Event.TheVariants.{Word}
 use Rattle.history.specs.Calls.{Call, event, is_accepted, step, run}
 use Rattle.history.specs.Courses.{Command}
 use Rattle.history.specs.Demands.{composing, due_answer, Carried, Answered}
-use Rattle.history.proofs.Tests.{false≢, and_left, and_right}
+use Rattle.history.proofs.Tests.{some_same, false≢, and_left, and_right}
 use Rattle.history.proofs.Steps.{accepted, accepted_table}
 use Rattle.history.proofs.Passing.{due_ends}
 use Rattle.history.proofs.Idle.{event_idle, idle_run, idle_answer}
@@ -33,6 +33,7 @@ use Rattle.history.proofs.Later.{event_since, answers_later}
 use Rattle.history.proofs.Ways.{Way, Gathered}
 use Rattle.history.proofs.Carrying.{Arrived, carry}
 use Rattle.history.proofs.Begun.{begun_direct, begun_gathered, begun_way, begun_on}
+use Rattle.std.specs.Prelude.{Option, Some}
 
 -- ---- what settling reads: the setup, the host's parts, and what is held but for the self-test request
 
@@ -43,12 +44,12 @@ module _ (s begun : State) (setup : s.setup ≡ begun.setup) (held : with_selfte
 
   settled_same : (w : ℕ) → settled_status s w ≡ settled_status (with_host begun s.host) w
   unfolding settled_status
-  settled_same w = same_read (λ a h. settled_status (state_of a s.host h s.message s.sending s.time.0 s.next s.timed) w)
+  settled_same w = same_read (λ a h. settled_status (state_of a s.host h s.message s.sending s.time.0 s.next) w)
 
   reply_same : (w : ℕ) (transmit : List ℕ) → reply_of s w transmit ≡ reply_of (with_host begun s.host) w transmit
   unfolding reply_of legal_reply mode_words
   reply_same w transmit =
-      same_read (λ a h. reply_of (state_of a s.host h s.message s.sending s.time.0 s.next s.timed) w transmit)
+      same_read (λ a h. reply_of (state_of a s.host h s.message s.sending s.time.0 s.next) w transmit)
 
   stores_same : (w : ℕ) → stores_data s w ≡ stores_data (with_host begun s.host) w
   unfolding stores_data
@@ -89,15 +90,14 @@ module _ (begun : State) (bus w end : ℕ) (words : List ℕ) (s : State) {m : M
   given = rw (way.message, g.asked, g.on, own) (shut_same s begun way.setup way.held bus ∙ on)
 
   -- the answer of such a message, from its parts
-  abbrev made : ℕ → ℕ → ℕ → Reply → Answer
-  made bus' last status reply = record {
-    given = true;
+  abbrev made : ℕ → ℕ → ℕ → Reply → Option Answer
+  made bus' last status reply = Some (record {
     bus = bus';
     due = record { 0 = last + due_distance };
     status = record { 0 = status };
     count = reply.count;
     words = reply.words;
-  }
+  })
 
   settles : (event_of s e receive transmit).answer ≡ made s.message.bus s.message.last.0 (status_now s) (reply_now s transmit)
   unfolding happens_of rule1_answer answer_of
@@ -156,7 +156,7 @@ arrived_carried s few r receive transmit k words all ks end way e receive' trans
     let later : State = run begun ks in
     let own : is_broadcast r.word ≡ false = not_broadcast s.setup.own.address r.word few k.own in
     let on : is_shut begun.held r.bus ≡ false = begun_on s r receive transmit k in
-    let answer : (event_of later e receive' transmit').answer ≡ due_answer (composing begun ks) r end transmit' =
+    let answer : (event_of later e receive' transmit').answer ≡ Some (due_answer (composing begun ks) r end transmit') =
     carries begun r.bus r.word end words later way.way way.gathered all own on e receive' transmit' ok then in
     let next : State = step later (event e receive' transmit') in
     let ended : (passed_of later (time_of e) transmit').message ≡ no_message =
@@ -164,7 +164,7 @@ arrived_carried s few r receive transmit k words all ks end way e receive' trans
     (due begun r.bus r.word end words later way.way way.gathered all own on e receive' transmit' ok then) in
     record {
       answer = answer;
-      gap = rw answer (omega arith);
+      gap = λ a given. rw (← some_same _ _ (sym answer ∙ given)) (omega arith);
       table = stores begun r.bus r.word end words later way.way way.gathered all own on e receive' transmit' ok then;
       before = way.silent;
       after = λ foreign more none k.

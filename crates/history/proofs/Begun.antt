@@ -24,6 +24,7 @@ use Rattle.history.proofs.Tests.{cond_cases}
 use Rattle.history.proofs.Steps.{stepped}
 use Rattle.history.proofs.Passing.{passed_own, passed_sending, passed_shut}
 use Rattle.history.proofs.Ways.{Way, Gathered}
+use Rattle.std.specs.Prelude.{Option}
 
 -- rule 4 shuts and opens none
 noted_shut : (own : Own) (h : Held) (word : ℕ) → (noted_command own (noted_status own h word) word).shut ≡ h.shut
@@ -76,7 +77,7 @@ module _ (s : State) (r : WordRecord) (receive transmit : List ℕ) (k : Command
   pub begun_step : step s (event (Word r) receive transmit) ≡ rule4 (passed_of s r.time.0 transmit) r
   begun_step =
       own_step s r receive transmit k.accepted (own_command s.setup.own r k.valid k.sync k.own)
-      (ap (λ (y : Sending). is_sending y r.bus r.time.0) (passed_sending s r.time.0 transmit) ∙ k.quiet)
+      (ap (λ (y : Option Sending). is_sending y r.bus r.time.0) (passed_sending s r.time.0 transmit) ∙ k.quiet)
 
   pub begun_way : Way (step s (event (Word r) receive transmit)) (begun_of r) (step s (event (Word r) receive transmit))
   unfolding rule4

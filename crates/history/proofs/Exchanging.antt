@@ -34,6 +34,7 @@ use Rattle.history.proofs.Carrying.{Arrived, behind, carry}
 use Rattle.history.proofs.Begun.{begun_way}
 use Rattle.history.proofs.Answered.{arrived_carried}
 use Rattle.history.proofs.Reached.{reachable}
+use Rattle.std.specs.Prelude.{Option}
 
 -- ---- how far a message between terminals has come
 
@@ -125,7 +126,7 @@ module _ (begun : State) {m : Message} {s : State} (way : Way begun m s) (stage 
   is_on_lem = rw (way.message, c.phase, stage_under_way stage, c.on, eq-eqb r.bus x.bus (sym on)) refl
 
   not_sending : is_sending s.sending x.bus x.time.0 ≡ false
-  not_sending = ap (λ (y : Sending). is_sending y x.bus x.time.0) way.sending ∙ (unfold is_sending in refl)
+  not_sending = ap (λ (y : Option Sending). is_sending y x.bus x.time.0) way.sending ∙ (unfold is_sending in refl)
 
   -- one that is no own command comes to rule 5
   comes : is_own s.setup.own x ≡ false

@@ -24,6 +24,7 @@ use Rattle.history.proofs.Tests.{true≢, false≢, cond_cases, and_left, and_ri
 use Rattle.history.proofs.Phases.{counting_under_way, awaits_missing, over_under_way}
 use Rattle.history.proofs.Passing.{still, passed_under_way}
 use Rattle.history.proofs.Begun.{first_counts}
+use Rattle.std.specs.Prelude.{Option}
 
 -- ---- an event shows a fault by its time or by its word
 
@@ -31,7 +32,7 @@ abbrev pub has_bad_word : State → Event → Bool
 has_bad_word s (Mark t) = false
 has_bad_word s (Word r) = is_bad_word s r
 
-one_if_lem : (b : Bool) (kind : SpacingFault) → is_fault (cond b (a_fault kind) no_fault) ≡ b
+one_if_lem : (b : Bool) (kind : Option SpacingFault) → is_fault (cond b (a_fault kind) no_fault) ≡ b
 one_if_lem true kind = refl
 one_if_lem false kind = refl
 
@@ -39,7 +40,7 @@ by_word_if : (s : State) (e : Event) → is_fault (word_fault s e) ≡ has_bad_w
 by_word_if s (Mark t) = refl
 by_word_if s (Word r) = one_if_lem (is_bad_word s r) (word_kind s.message r)
 
-either_if : (over : Bool) (kind : SpacingFault) (f : EventFault) (bad : Bool) → is_fault f ≡ bad → is_fault (cond over (a_fault kind) f) ≡ (over || bad)
+either_if : (over : Bool) (kind : Option SpacingFault) (f : EventFault) (bad : Bool) → is_fault f ≡ bad → is_fault (cond over (a_fault kind) f) ≡ (over || bad)
 either_if true kind f bad h = refl
 either_if false kind f bad h = h
 
@@ -136,7 +137,7 @@ marked_comes s e transmit marks =
 -- ---- and a fault that comes of the rules is marked
 
 -- what still has a message under way is none
-no_fault_lem : {X : Type 0} (s next : State) (kind : SpacingFault) → is_under_way next.message.phase ≡ true → next ≡ faulty_of s kind → X
+no_fault_lem : {X : Type 0} (s next : State) (kind : Option SpacingFault) → is_under_way next.message.phase ≡ true → next ≡ faulty_of s kind → X
 unfolding faulty_of
 no_fault_lem s next kind on same = true≢ (sym on ∙ ap (λ (x : State). is_under_way x.message.phase) same)
 
@@ -173,7 +174,7 @@ begun_under_way : (r : WordRecord) → is_under_way (begun_of r).phase ≡ true
 unfolding begun_of
 begun_under_way r = counting_under_way (first_phase r.word) (first_counts r.word)
 
-by_word_bad : (s : State) (r : WordRecord) (kind : SpacingFault) → is_under_way s.message.phase ≡ true → rules3to6 s r ≡ faulty_of s kind → is_bad_word s r ≡ true
+by_word_bad : (s : State) (r : WordRecord) (kind : Option SpacingFault) → is_under_way s.message.phase ≡ true → rules3to6 s r ≡ faulty_of s kind → is_bad_word s r ≡ true
 unfolding rules3to6 rule4 rule5 is_on
 by_word_bad s r kind on same = go (rule3 s r) refl (is_own s.setup.own r) refl (is_on s.message r.bus) refl (is_next_word s.message.phase s r) refl
   where

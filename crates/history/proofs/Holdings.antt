@@ -14,12 +14,13 @@ use Rattle.terminal.specs.Effects.{effect_of, held_after}
 use Rattle.terminal.specs.Rules.{kept_by, noted_status, noted_command}
 use Rattle.terminal.specs.declared.states.Own.{Own}
 use Rattle.terminal.specs.declared.states.SpacingFault.{SpacingFault}
-use Rattle.terminal.specs.declared.states.SpacingFault.TheVariants.{None, Overlapping, Separated}
+use Rattle.terminal.specs.declared.states.SpacingFault.TheVariants.{Overlapping, Separated}
 use Rattle.terminal.specs.declared.states.Held.{Held}
 use Rattle.terminal.specs.declared.states.Terminal.{Terminal as State}
 use Rattle.history.specs.States.{is_to, Holding}
 use Rattle.history.proofs.Tests.{cond_cases}
 use Rattle.history.proofs.Statuses.{address_kept, spare_kept}
+use Rattle.std.specs.Prelude.{Option, Some, None}
 
 -- a choice of two, each as it should be
 pub held_either : (own : Own) (b : Bool) (x y : Held) → Holding own x → Holding own y → Holding own (cond b x y)
@@ -36,10 +37,10 @@ module _ (own : Own) (h : Held) where
       record { status = address_kept flag n ∙ k.status; spare = spare_kept flag n ∙ k.spare; command = k.command; shut = k.shut; spacing = k.spacing }
 
 -- with the kind of a spacing fault
-pub held_kept : (own : Own) (h : Held) (kind : SpacingFault) → Holding own h → Holding own (kept_by h kind)
+pub held_kept : (own : Own) (h : Held) (kind : Option SpacingFault) → Holding own h → Holding own (kept_by h kind)
 held_kept own h None k = k
-held_kept own h Overlapping k = record { status = k.status; spare = k.spare; command = k.command; shut = k.shut; spacing = refl }
-held_kept own h Separated k = record { status = k.status; spare = k.spare; command = k.command; shut = k.shut; spacing = refl }
+held_kept own h (Some Overlapping) k = record { status = k.status; spare = k.spare; command = k.command; shut = k.shut; spacing = refl }
+held_kept own h (Some Separated) k = record { status = k.status; spare = k.spare; command = k.command; shut = k.shut; spacing = refl }
 
 module _ (own : Own) (small : own.address ≤ 30) where
   -- fresh

@@ -22,6 +22,8 @@ use Rattle.history.proofs.Passing.{passed_message}
 use Rattle.history.proofs.Moving.{rules_hold}
 use Rattle.history.proofs.Givens.{given_message}
 use Rattle.history.proofs.Times.{event_time}
+use Rattle.std.specs.Prelude.{Some}
+use Rattle.terminal.specs.declared.answers.Answer.{Answer}
 
 -- a message that is under way has its last word at or after t
 abbrev Recent : ℕ → Message → Type 0
@@ -77,11 +79,11 @@ run_since t s (k ∷ ks) h none = run_since t (step s k) ks (call_since t s k h 
 -- ---- the answers
 
 -- one that is given is due 260 after the last word of its message
-answer_later : (t : ℕ) (s : State) (k : Call) → Since t s → (answer_in s k).given ≡ true → t + due_distance ≤ (answer_in s k).due.0
-answer_later t s k h given =
-    let of = given_message s k given in
+answer_later : (t : ℕ) (s : State) (k : Call) → Since t s → (a : Answer) → answer_in s k ≡ Some a → t + due_distance ≤ a.due.0
+answer_later t s k h a given =
+    let of = given_message s k a given in
     omega (arith, h.message of.under_way, of.due)
 
-pub answers_later : (t : ℕ) (s : State) (ks : List Call) (k : Call) → Since t s → NoSetUp s ks → (answer_in (run s ks) k).given ≡ true
-    → t + due_distance ≤ (answer_in (run s ks) k).due.0
+pub answers_later : (t : ℕ) (s : State) (ks : List Call) (k : Call) → Since t s → NoSetUp s ks → (a : Answer) → answer_in (run s ks) k ≡ Some a
+    → t + due_distance ≤ a.due.0
 answers_later t s ks k h none = answer_later t (run s ks) k (run_since t s ks h none)

@@ -22,8 +22,6 @@ use Rattle.terminal.specs.declared.states.Phase.{Phase}
 use Rattle.terminal.specs.declared.states.Phase.TheVariants.{Idle, First, Pledged, Confirmed, Data}
 use Rattle.terminal.specs.declared.states.Message.{Message}
 use Rattle.terminal.specs.declared.states.Terminal.{Terminal as State}
-use Rattle.terminal.specs.declared.messages.NextMoment.{NextMoment}
-use Rattle.terminal.specs.declared.messages.NextMoment.TheVariants.{At}
 use Rattle.terminal.specs.declared.events.Event.TheVariants.{Word}
 use Rattle.terminal.proofs.Moments.{at_phase_lem}
 use Rattle.history.specs.Calls.{Call, event, step, run}
@@ -41,6 +39,8 @@ use Rattle.history.proofs.Polling.{over_ends}
 use Rattle.history.proofs.Wiping.{event_marks}
 use Rattle.history.proofs.Replacing.{own_begins}
 use Rattle.history.proofs.Questions.{run_keeps, own_keeps}
+use Rattle.words.specs.declared.times.Moment.{Moment}
+use Rattle.std.specs.Prelude.{Option, Some}
 
 -- ---- the message that an own command began
 
@@ -165,7 +165,7 @@ module _ (s : State) (r : WordRecord) (receive transmit : List ℕ) (ks : List C
   while First is = rw (late (ap is_between is)) refl
   while (Pledged address) is = rw overdue refl
   while Confirmed is =
-      ap {B = NextMoment} (λ (n : ℕ). At (record { 0 = n }))
+      ap {B = Option Moment} (λ (n : ℕ). Some (record { 0 = n }))
       (ap (earlier_of (late_moment its)) overdue ∙ earlier_plus its.last.0 206 (r.time.0 + 751) (omega (arith, clock)))
   while Data is = rw (late (ap is_between is)) refl
 

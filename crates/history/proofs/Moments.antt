@@ -19,8 +19,6 @@ use Rattle.terminal.specs.declared.states.Phase.{Phase}
 use Rattle.terminal.specs.declared.states.Phase.TheVariants.{Idle, First, Pledged, Confirmed, Data}
 use Rattle.terminal.specs.declared.states.Message.{Message}
 use Rattle.terminal.specs.declared.states.Terminal.{Terminal as State}
-use Rattle.terminal.specs.declared.messages.NextMoment.{NextMoment}
-use Rattle.terminal.specs.declared.messages.NextMoment.TheVariants.{At, Never}
 use Rattle.terminal.specs.declared.events.Event.TheVariants.{Mark}
 use Rattle.history.specs.Calls.{is_accepted}
 use Rattle.history.specs.Demands.{Passes, EndsMessage, MomentExactly}
@@ -30,6 +28,7 @@ use Rattle.history.proofs.Phases.{due_under_way, over_under_way, over_at, not_du
 use Rattle.history.proofs.Passing.{still, due_ends}
 use Rattle.history.proofs.Faults.{over_missing}
 use Rattle.history.proofs.Polling.{over_ends}
+use Rattle.std.specs.Prelude.{Option, Some, None}
 
 -- ---- a sum that may pass 64 bits, against a time on the clock
 
@@ -49,18 +48,18 @@ module _ (a k t : ℕ) where
 -- ---- a moment, or none
 
 -- which it is
-abbrev number_in : NextMoment → ℕ
-number_in (At m) = m.0
-number_in Never = 0
+abbrev number_in : Option Moment → ℕ
+number_in (Some m) = m.0
+number_in None = 0
 
-at_is : {a : ℕ} {next : Moment} → At (record { 0 = a }) ≡ At next → next.0 ≡ a
+at_is : {a : ℕ} {next : Moment} → Some (record { 0 = a }) ≡ Some next → next.0 ≡ a
 at_is is = sym (ap number_in is)
 
-abbrev is_never : NextMoment → Bool
-is_never (At m) = false
-is_never Never = true
+abbrev is_never : Option Moment → Bool
+is_never (Some m) = false
+is_never None = true
 
-never_at : {next : Moment} → Never ≡ At next → ⊥
+never_at : {next : Moment} → None ≡ Some next → ⊥
 never_at is = true≢ (ap is_never is)
 
 -- ---- the earlier of two
@@ -81,7 +80,7 @@ earlier_either a b t after p q =
 
 module _ (m : Message) where
   -- before its moment its time is not over, at it and later it is
-  not_yet : (p : Phase) (t : ℕ) (next : Moment) → awaited_moment p m ≡ At next → t < next.0 → over_at p m t ≡ false
+  not_yet : (p : Phase) (t : ℕ) (next : Moment) → awaited_moment p m ≡ Some next → t < next.0 → over_at p m t ≡ false
   not_yet Idle t next is before = refl
   not_yet First t next is before = le-ltb (m.last.0 + 205) t (omega (arith, before_plus m.last.0 206 t (rw (at_is is) at before)))
   not_yet (Pledged address) t next is before = le-ltb (m.start.0 + 750) t (omega (arith, before_plus m.start.0 751 t (rw (at_is is) at before)))
@@ -90,7 +89,7 @@ module _ (m : Message) where
       rw (le-ltb (m.last.0 + 205) t (omega (arith, before_plus m.last.0 206 t both.0)), le-ltb (m.start.0 + 750) t (omega (arith, before_plus m.start.0 751 t both.1))) refl
   not_yet Data t next is before = le-ltb (m.last.0 + 205) t (omega (arith, before_plus m.last.0 206 t (rw (at_is is) at before)))
 
-  by_then : (p : Phase) (t : ℕ) (next : Moment) → t < 2 ^ 48 → awaited_moment p m ≡ At next → next.0 ≤ t → over_at p m t ≡ true
+  by_then : (p : Phase) (t : ℕ) (next : Moment) → t < 2 ^ 48 → awaited_moment p m ≡ Some next → next.0 ≤ t → over_at p m t ≡ true
   by_then Idle t next clock is after = absurd (never_at is)
   by_then First t next clock is after = lt-ltb (m.last.0 + 205) t (omega (arith, after_plus m.last.0 206 t clock (rw (at_is is) at after)))
   by_then (Pledged address) t next clock is after = lt-ltb (m.start.0 + 750) t (omega (arith, after_plus m.start.0 751 t clock (rw (at_is is) at after)))
@@ -139,16 +138,16 @@ module _ (s : State) (t : Moment) (receive transmit : List ℕ) (ok : is_accepte
     unfolding is_due
     due_at = rw whole refl
 
-    whole_told : next_moment_of s.message ≡ At (record { 0 = plus_of s.message.last.0 due_distance })
+    whole_told : next_moment_of s.message ≡ Some (record { 0 = plus_of s.message.last.0 due_distance })
     unfolding next_moment_of
     whole_told = rw whole refl
 
-    whole_before : (next : Moment) → next_moment_of s.message ≡ At next → t.0 < next.0 → Passes s t receive transmit
+    whole_before : (next : Moment) → next_moment_of s.message ≡ Some next → t.0 < next.0 → Passes s t receive transmit
     whole_before next is before =
         let last : ℕ = s.message.last.0 in
         passes (due_at ∙ lt-leb (last + due_distance) t.0 (before_plus last due_distance t.0 (rw (at_is (sym whole_told ∙ is)) at before))) never_over
 
-    whole_then : (next : Moment) → next_moment_of s.message ≡ At next → next.0 ≤ t.0 → EndsMessage s t receive transmit
+    whole_then : (next : Moment) → next_moment_of s.message ≡ Some next → next.0 ≤ t.0 → EndsMessage s t receive transmit
     whole_then next is after =
         let last : ℕ = s.message.last.0 in
         settles (due_at ∙ le-leb (last + due_distance) t.0 (after_plus last due_distance t.0 clock (rw (at_is (sym whole_told ∙ is)) at after)))
@@ -162,31 +161,31 @@ module _ (s : State) (t : Moment) (receive transmit : List ℕ) (ok : is_accepte
     over_here : is_over s.message t.0 ≡ over_at s.message.phase s.message t.0
     over_here = over_at_lem s.message missing s.message.phase t.0 refl
 
-    missing_never : next_moment_of s.message ≡ Never → Passes s t receive transmit
+    missing_never : next_moment_of s.message ≡ None → Passes s t receive transmit
     missing_never is =
         passes (not_due s.message missing t.0) (over_here ∙ idle_over s.message.phase (sym told ∙ is))
       where
-        idle_over : (p : Phase) → awaited_moment p s.message ≡ Never → over_at p s.message t.0 ≡ false
+        idle_over : (p : Phase) → awaited_moment p s.message ≡ None → over_at p s.message t.0 ≡ false
         idle_over Idle e = refl
         idle_over First e = absurd (never_at (sym e))
         idle_over (Pledged address) e = absurd (never_at (sym e))
         idle_over Confirmed e = absurd (never_at (sym e))
         idle_over Data e = absurd (never_at (sym e))
 
-    missing_before : (next : Moment) → next_moment_of s.message ≡ At next → t.0 < next.0 → Passes s t receive transmit
+    missing_before : (next : Moment) → next_moment_of s.message ≡ Some next → t.0 < next.0 → Passes s t receive transmit
     missing_before next is before =
         passes (not_due s.message missing t.0)
         (over_here ∙ not_yet s.message s.message.phase t.0 next (sym told ∙ is) before)
 
-    missing_then : (next : Moment) → next_moment_of s.message ≡ At next → next.0 ≤ t.0 → EndsMessage s t receive transmit
+    missing_then : (next : Moment) → next_moment_of s.message ≡ Some next → next.0 ≤ t.0 → EndsMessage s t receive transmit
     missing_then next is after = faults (over_here ∙ by_then s.message s.message.phase t.0 next clock (sym told ∙ is) after)
 
 pub moment_exactly : MomentExactly
 moment_exactly s t receive transmit ok = go (is_whole s.message) refl
   where
     go : (b : Bool) → is_whole s.message ≡ b
-        → (next_moment_of s.message ≡ Never → Passes s t receive transmit)
-        × ((next : Moment) → next_moment_of s.message ≡ At next
+        → (next_moment_of s.message ≡ None → Passes s t receive transmit)
+        × ((next : Moment) → next_moment_of s.message ≡ Some next
         → (t.0 < next.0 → Passes s t receive transmit) × (next.0 ≤ t.0 → EndsMessage s t receive transmit))
     go true whole = (
       λ is. absurd (never_at (sym is ∙ whole_told s t receive transmit ok whole)),

@@ -12,10 +12,11 @@ use Rattle.terminal.specs.declared.states.Phase.TheVariants.{Idle, First, Pledge
 use Rattle.terminal.specs.declared.states.Message.{Message}
 use Rattle.terminal.specs.declared.states.Terminal.{Terminal as State}
 use Rattle.history.proofs.Tests.{cond_cases, and_left}
+use Rattle.std.specs.Prelude.{Option}
 
 -- what a fault, another message and an own command keep, they keep
 module _ {A : Type 0} (part : State → A)
-    (faulty : (s : State) (kind : SpacingFault) → part (faulty_of s kind) ≡ part s)
+    (faulty : (s : State) (kind : Option SpacingFault) → part (faulty_of s kind) ≡ part s)
     (moved : (s : State) (m : Message) → part (with_message s m) ≡ part s)
     (begun : (s : State) (r : WordRecord) → part (rule4 s r) ≡ part s)
     (s : State) (r : WordRecord) where

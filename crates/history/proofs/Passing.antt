@@ -15,6 +15,7 @@ use Rattle.terminal.specs.declared.states.Message.{Message}
 use Rattle.terminal.specs.declared.states.Terminal.{Terminal as State}
 use Rattle.history.proofs.Tests.{false≢, cond_cases}
 use Rattle.history.proofs.Keeping.{kept_same}
+use Rattle.std.specs.Prelude.{Option}
 
 -- they keep the setup
 pub passed_setup : (s : State) (t : ℕ) (transmit : List ℕ) → (passed_of s t transmit).setup ≡ s.setup
@@ -45,7 +46,7 @@ unfolding passed_of rule2 faulty_of
 passed_sending s t transmit =
     cond_cases (λ (x : State). x.sending ≡ (rule1 s t transmit).sending) (is_over (rule1 s t transmit).message t) (λ over. refl) (λ in_time_lem. refl)
 
-faulty_shut : (s : State) (kind : SpacingFault) → (faulty_of s kind).held.shut ≡ s.held.shut
+faulty_shut : (s : State) (kind : Option SpacingFault) → (faulty_of s kind).held.shut ≡ s.held.shut
 unfolding faulty_of
 faulty_shut s kind =
     let w : ℕ = s.message.command.0 in

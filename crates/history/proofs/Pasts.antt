@@ -25,8 +25,8 @@ marks_do_not_matter_after_any_past past = marks_do_not_matter (after_past past) 
 
 -- the status of an answer is that which settling leaves
 pub answers_plain : AnswersPlain
-answers_plain past k given =
+answers_plain past k a given =
     let s : State = after_past past in
-    let says = (given_message s k given).status in
+    let says = (given_message s k a given).status in
     let settled = status_settled s (reachable past).address (reachable past).held s.message.command.0 in
     (ap address_of says ∙ settled.status, ap has_no_other says ∙ settled.spare)

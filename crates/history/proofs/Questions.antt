@@ -1,52 +1,45 @@
 -- What the host is told when it asks for the next moment is what the message has: the terminal sets it with the message, or leaves both. Assumes nothing.
 use mathlib.Core.Path.{◌≡◌, refl, sym, ap, ◌∙◌}
 use Prim.Native.Nat.{ℕ}
-use mathlib.Core.Bool.{Bool, true, false, cond, ◌&&◌}
+use mathlib.Core.Bool.{Bool, true, false, ◌&&◌}
 use mathlib.Core.List.{List, [], ◌∷◌}
 use mathlib.Core.Logic.{◌⊎◌, inl, inr}
 use Rattle.records.specs.declared.forms.WordRecord.{WordRecord}
-use Rattle.terminal.specs.States.{stored_moment, is_timed, fresh_of, with_message, moment_in}
+use Rattle.terminal.specs.States.{fresh_of, with_message, moment_in}
 use Rattle.terminal.specs.Commands.{is_own}
 use Rattle.terminal.specs.Messages.{is_on, awaits_data, is_due, is_over, is_next_data, is_second, is_status_from, next_moment_of}
 use Rattle.terminal.specs.Rules.{settled_of, rule1, faulty_of, rule2, rule3, rule4, next_data, next_word, rule5, rules3to6}
-use Rattle.terminal.specs.Events.{time_of, set_up_of, passed_of, taken_of}
+use Rattle.terminal.specs.Events.{terminal_of, time_of, set_up_of, passed_of, taken_of}
 use Rattle.terminal.specs.declared.states.SpacingFault.{SpacingFault}
 use Rattle.terminal.specs.declared.states.Phase.{Phase}
 use Rattle.terminal.specs.declared.states.Phase.TheVariants.{Idle, First, Pledged, Confirmed, Data}
 use Rattle.terminal.specs.declared.states.Message.{Message}
 use Rattle.terminal.specs.declared.states.Setup.{Setup}
 use Rattle.terminal.specs.declared.states.Terminal.{Terminal as State}
-use Rattle.terminal.specs.declared.messages.NextMoment.{NextMoment}
-use Rattle.terminal.specs.declared.messages.NextMoment.TheVariants.{At, Never}
 use Rattle.terminal.specs.declared.events.Event.{Event}
 use Rattle.terminal.specs.declared.events.Event.TheVariants.{Mark, Word}
-use Rattle.terminal.specs.declared.setups.SetUp.{SetUp}
 use Rattle.terminal.proofs.Moments.{none_never}
 use Rattle.history.specs.Calls.{Call, set_up, event, host, clear_selftest, restart, is_accepted, is_set_up, step, run, after_past}
 use Rattle.history.specs.Demands.{KeepsMoment, KeptMoment, KeptFromFresh, LeavesMoment, is_leaving, SetOrLeft, MomentExactlyAfterAnyPast}
 use Rattle.history.proofs.Tests.{false≢, cond_cases}
-use Rattle.history.proofs.Steps.{stepped, refused_stays, refusal_keeps}
+use Rattle.history.proofs.Steps.{stepped, refused_stays, refusal_keeps, set_up_either}
 use Rattle.history.proofs.Begun.{own_step}
 use Rattle.history.proofs.Moments.{moment_exactly}
+use Rattle.std.specs.Prelude.{Option}
 
 -- ---- what is set with a message is its next moment
 
-told_kept : (moment : NextMoment) → cond (is_timed moment) (At (stored_moment moment)) Never ≡ moment
-told_kept (At moment) = refl
-told_kept Never = refl
-
 with_keeps : (s : State) (m : Message) → KeepsMoment (with_message s m)
 unfolding moment_in
-with_keeps s m = told_kept (next_moment_of m)
+with_keeps s m = refl
 
 fresh_keeps : (setup : Setup) → KeepsMoment (fresh_of setup)
 unfolding moment_in
 fresh_keeps setup = sym none_never
 
-set_up_keeps : (address : ℕ) (receive transmit : List ℕ) → KeepsMoment (set_up_of address receive transmit).terminal
-unfolding set_up_of
+set_up_keeps : (address : ℕ) (receive transmit : List ℕ) → KeepsMoment (terminal_of (set_up_of address receive transmit))
 set_up_keeps address receive transmit =
-    cond_cases (λ (x : SetUp). KeepsMoment x.terminal) (is_set_up address receive transmit) (λ set. fresh_keeps _) (λ bad. fresh_keeps _)
+    set_up_either address receive transmit KeepsMoment (λ set. fresh_keeps _) (λ bad. fresh_keeps _)
 
 -- ---- set or left, by the rules in their order
 
@@ -68,13 +61,13 @@ then s x y (inr set) (inl more) = inr (left_keeps x y more set)
 same : (s : State) → Either s s
 same s = inl (refl, refl)
 
-faulty_keeps : (s : State) (kind : SpacingFault) → KeepsMoment (faulty_of s kind)
+faulty_keeps : (s : State) (kind : Option SpacingFault) → KeepsMoment (faulty_of s kind)
 unfolding faulty_of moment_in
-faulty_keeps s kind = told_kept _
+faulty_keeps s kind = refl
 
 rule1_either : (s : State) (t : ℕ) (transmit : List ℕ) → Either s (rule1 s t transmit)
 unfolding rule1 settled_of moment_in
-rule1_either s t transmit = cond_cases (Either s) (is_due s.message t) (λ due. inr (told_kept _)) (λ not. same s)
+rule1_either s t transmit = cond_cases (Either s) (is_due s.message t) (λ due. inr (refl)) (λ not. same s)
 
 rule2_either : (s : State) (t : ℕ) → Either s (rule2 s t)
 unfolding rule2
@@ -86,7 +79,7 @@ passed_either s t transmit = then s (rule1 s t transmit) (rule2 (rule1 s t trans
 
 rule4_keeps : (s : State) (r : WordRecord) → KeepsMoment (rule4 s r)
 unfolding rule4 moment_in
-rule4_keeps s r = told_kept _
+rule4_keeps s r = refl
 
 module _ (s : State) (r : WordRecord) where
   data_either : Either s (next_data s r)
@@ -130,7 +123,7 @@ call_either s (event e receive transmit) = go (is_accepted s e receive transmit)
     go false bad = rw (refused_stays s e receive transmit bad) (same s)
 call_either s (host setting) = same s
 call_either s clear_selftest = same s
-call_either s restart = inr (told_kept _)
+call_either s restart = inr (refl)
 
 leaving : (s : State) (k : Call) → is_leaving s k ≡ true → LeavesMoment s (step s k)
 unfolding step moment_in

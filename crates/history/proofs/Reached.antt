@@ -15,7 +15,7 @@ use Rattle.terminal.specs.Commands.{is_own}
 use Rattle.terminal.specs.Messages.{is_under_way, is_on, awaits_data, is_due, is_over, is_next_data, is_second, is_status_from}
 use Rattle.terminal.specs.Settling.{sending_of}
 use Rattle.terminal.specs.Rules.{reply_now, settled_of, rule1, faulty_of, time_fault, rule2, rule3, rule4, staged_of, moved_of, next_data, next_word, rule5, rules3to6}
-use Rattle.terminal.specs.Events.{event_of, happens_of, set_up_refusal, set_up_of, time_of, is_in_range, passed_of, taken_of, selftest_cleared, restarted_of}
+use Rattle.terminal.specs.Events.{terminal_of, event_of, happens_of, set_up_refusal, set_up_of, time_of, is_in_range, passed_of, taken_of, selftest_cleared, restarted_of}
 use Rattle.terminal.specs.declared.states.Host.{Host}
 use Rattle.terminal.specs.declared.states.Setup.{Setup}
 use Rattle.terminal.specs.declared.states.SpacingFault.{SpacingFault}
@@ -30,17 +30,19 @@ use Rattle.terminal.proofs.Counts.{reply_most, due_most}
 use Rattle.history.specs.Calls.{Call, set_up, event, host, clear_selftest, restart, is_accepted, is_set_up, host_of, step, run}
 use Rattle.history.specs.Demands.{Reachable}
 use Rattle.history.specs.States.{is_to, is_opening, Waiting, Sound}
-use Rattle.history.proofs.Tests.{false≢, cond_cases, and_left, and_right}
-use Rattle.history.proofs.Steps.{shown, not_earlier, record_on_clock}
+use Rattle.history.proofs.Tests.{false≢, none≢, cond_cases, and_left, and_right}
+use Rattle.history.proofs.Steps.{set_up_gives, shown, not_earlier, record_on_clock}
 use Rattle.history.proofs.Phases.{opening_under_way, awaits_under_way, due_under_way}
 use Rattle.history.proofs.Holdings.{held_kept, held_either, status_flag, held_fresh, command_noted, held_settled}
 use Rattle.history.proofs.Waitings.{waiting_later, window_later, waiting_begun, waiting_staged, waiting_moved, window_settled}
+use Rattle.std.specs.Prelude.{Option, None, is_none}
+use Rattle.words.specs.declared.refusals.Refusal.{Refusal}
 
 -- ---- a set-up
 
 -- fresh, with a set-up as it should be
 fresh_sound : (setup : Setup) → setup.own.address ≤ 30 → length setup.receive ≡ 32 → length setup.transmit ≡ 32 → Sound (fresh_of setup)
-fresh_sound setup a r t = search (held_fresh, false≢)
+fresh_sound setup a r t = search (held_fresh, false≢, none≢)
 
 -- an accepted set-up is so
 accepted_sound : (setup : Setup) → is_set_up setup.own.address setup.receive setup.transmit ≡ true → Sound (fresh_of setup)
@@ -51,13 +53,12 @@ accepted_sound setup =
     cond_cases P (leb setup.own.address 30) (λ small ok. search (fresh_sound, leb-true, eqb-true, and_left, and_right)) (λ e. false≢))
     (λ e. false≢)
   where
-    P : ℕ → Type 0
-    P n = eqb n 0 ≡ true → Sound (fresh_of setup)
+    P : Option Refusal → Type 0
+    P o = is_none o ≡ true → Sound (fresh_of setup)
 
 -- and so is what it gives
-set_up_sound : (address : ℕ) (receive transmit : List ℕ) → is_set_up address receive transmit ≡ true → Sound (set_up_of address receive transmit).terminal
-unfolding set_up_of
-set_up_sound address receive transmit ok = rw ok (accepted_sound (setup_of (own_of address) receive transmit) ok)
+set_up_sound : (address : ℕ) (receive transmit : List ℕ) → is_set_up address receive transmit ≡ true → Sound (terminal_of (set_up_of address receive transmit))
+set_up_sound address receive transmit ok = rw (set_up_gives address receive transmit ok) (accepted_sound (setup_of (own_of address) receive transmit) ok)
 
 -- ---- host calls, and how a message goes on or ends
 
@@ -72,10 +73,10 @@ module _ (s : State) (h : Sound s) where
 
   -- restarted
   restarted_sound : Sound (restarted_of s)
-  restarted_sound = search (held_fresh, false≢)
+  restarted_sound = search (held_fresh, false≢, none≢)
 
   -- after a faulty message
-  faulty_sound : (kind : SpacingFault) → Sound (faulty_of s kind)
+  faulty_sound : (kind : Option SpacingFault) → Sound (faulty_of s kind)
   unfolding faulty_of
   faulty_sound kind = search (held_kept, held_either, status_flag, false≢)
 
@@ -101,7 +102,7 @@ module _ (s : State) (h : Sound s) (t : ℕ) (later : s.time.0 ≤ t) (on_clock_
   settled_sound transmit due =
       let w = waiting_later s.time.0 t later s.setup.own s.message (h.message (due_under_way s.message t due)) in
       let reached = due_most s.message t due in
-      let idle : false ≡ true → (sending_of s (reply_now s transmit).count).on ≡ false = false≢ in
+      let idle : false ≡ true → sending_of s (reply_now s transmit).count ≡ None = false≢ in
       search (held_settled, window_settled, reply_most, false≢)
 
   -- after rules 1 and 2
@@ -122,7 +123,7 @@ module _ (s : State) (h : Sound s) (r : WordRecord) (at : r.time.0 ≤ s.time.0)
   unfolding rule4 is_own
   begun_sound ranged own =
       let to : is_to s.setup.own r.word ≡ true = search (and_right, own) in
-      search (command_noted, waiting_begun, false≢)
+      search (command_noted, waiting_begun, false≢, none≢)
 
   -- after a second command word, and after the status that it asked for
   moved_sound : (p : Phase) → is_opening s.message.phase ≡ true → Sound (with_message s (moved_of s.message p r))

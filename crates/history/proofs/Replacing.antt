@@ -11,7 +11,7 @@ use Rattle.words.specs.declared.statuses.Flag.TheVariants.{MessageError, Broadca
 use Rattle.words.proofs.Flags.{flag_alone}
 use Rattle.records.specs.declared.forms.WordRecord.{WordRecord}
 use Rattle.terminal.specs.Commands.{is_own, is_exempt}
-use Rattle.terminal.specs.Messages.{is_sending}
+use Rattle.terminal.specs.Messages.{is_sent, is_sending}
 use Rattle.terminal.specs.Settling.{other_bus}
 use Rattle.terminal.specs.Rules.{rule1_answer, rule1_receive, rule3, noted_status, noted_command, rule4, cuts_sending}
 use Rattle.terminal.specs.Events.{passed_of, happens_of, event_of}
@@ -24,10 +24,11 @@ use Rattle.terminal.specs.declared.events.Event.TheVariants.{Mark, Word}
 use Rattle.terminal.specs.declared.events.Happened.{Happened}
 use Rattle.history.specs.Calls.{event, is_accepted, step, brings_own}
 use Rattle.history.specs.Demands.{Begins, Replaced, Cut, CutExactly, CutByOwnAlone}
-use Rattle.history.proofs.Tests.{false≢, cond_cases, and_left, and_right, and_false}
+use Rattle.history.proofs.Tests.{false≢, cond_cases, and_left, and_right}
 use Rattle.history.proofs.Passing.{passed_own, passed_under_way, still}
 use Rattle.history.proofs.Steps.{accepted, accepted_table}
 use Rattle.history.proofs.Begun.{own_step}
+use Rattle.std.specs.Prelude.{Option, Some, None}
 
 -- ---- the stored status of an own command
 
@@ -105,12 +106,13 @@ other_apart bus =
     cond_cases (λ (other : ℕ). other ≡ bus → ⊥) (eqb bus 0) (λ e h. omega (arith, eqb-true bus 0 e)) (λ e h. eqb-false bus 0 e (sym h))
 
 -- sending on the other bus is not sending on this one
-sending_on_one : (w : Sending) (bus t : ℕ) → is_sending w (other_bus bus) t ≡ true → is_sending w bus t ≡ false
-unfolding is_sending
-sending_on_one w bus t h =
+sending_on_one : (o : Option Sending) (bus t : ℕ) → is_sending o (other_bus bus) t ≡ true → is_sending o bus t ≡ false
+unfolding is_sending is_sent
+sending_on_one None bus t h = refl
+sending_on_one (Some w) bus t h =
     let there : eqb w.bus (other_bus bus) ≡ true = search (and_left, and_right, h) in
     let elsewhere = ne_eqb w.bus bus (λ e. other_apart bus (sym (eqb-true w.bus (other_bus bus) there) ∙ e)) in
-    rw (elsewhere, and_false w.on)
+    rw elsewhere refl
 
 -- so rule 3 does not ignore a command that cuts
 pub cut : Cut

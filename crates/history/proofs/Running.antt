@@ -8,25 +8,23 @@ use Rattle.terminal.specs.States.{no_message}
 use Rattle.terminal.specs.Commands.{is_own}
 use Rattle.terminal.specs.Messages.{is_under_way, is_between}
 use Rattle.terminal.specs.Rules.{staged_of, moved_of}
-use Rattle.terminal.specs.Events.{time_of, set_up_of, passed_of, taken_of}
+use Rattle.terminal.specs.Events.{terminal_of, time_of, set_up_of, passed_of, taken_of}
 use Rattle.terminal.specs.declared.states.Phase.{Phase}
 use Rattle.terminal.specs.declared.states.Message.{Message}
 use Rattle.terminal.specs.declared.states.Terminal.{Terminal as State}
 use Rattle.terminal.specs.declared.events.Event.{Event}
 use Rattle.terminal.specs.declared.events.Event.TheVariants.{Mark, Word}
-use Rattle.terminal.specs.declared.setups.SetUp.{SetUp}
 use Rattle.history.specs.Calls.{Call, set_up, event, host, clear_selftest, restart, is_accepted, is_set_up, step, run, brings_own}
 use Rattle.history.specs.Courses.{NoOwn}
 use Rattle.history.proofs.Tests.{true≢, cond_cases}
-use Rattle.history.proofs.Steps.{stepped, refused_stays}
+use Rattle.history.proofs.Steps.{stepped, refused_stays, set_up_either}
 use Rattle.history.proofs.Passing.{passed_own, passed_message}
 use Rattle.history.proofs.Moving.{asking_under_way, rules_hold}
 
 -- a terminal that a set-up gives has no message
-pub set_up_idle : (address : ℕ) (receive transmit : List ℕ) → (set_up_of address receive transmit).terminal.message ≡ no_message
-unfolding set_up_of
+pub set_up_idle : (address : ℕ) (receive transmit : List ℕ) → (terminal_of (set_up_of address receive transmit)).message ≡ no_message
 set_up_idle address receive transmit =
-    cond_cases (λ (x : SetUp). x.terminal.message ≡ no_message) (is_set_up address receive transmit) (λ set. refl) (λ bad. refl)
+    set_up_either address receive transmit (λ (x : State). x.message ≡ no_message) (λ set. refl) (λ bad. refl)
 
 module _ (P : Message → Type 0) (none : P no_message)
     (staged : (r : WordRecord) (m : Message) → is_under_way m.phase ≡ true → P m → P (staged_of m r))

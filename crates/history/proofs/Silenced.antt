@@ -1,5 +1,5 @@
 -- A terminal with an own address above 30 never answers: its own commands are broadcasts. What a refused set-up gives is one. Assumes nothing.
-use mathlib.Core.Path.{◌≡◌, refl, ap, ◌∙◌}
+use mathlib.Core.Path.{◌≡◌, refl, sym, ap, ◌∙◌}
 use Prim.Native.Nat.{ℕ, ◌≤◌}
 use mathlib.Core.Bool.{Bool, true, false}
 use mathlib.Core.List.{List, [], ◌∷◌}
@@ -16,7 +16,7 @@ use Rattle.terminal.specs.Commands.{is_own, mask_of, is_legal}
 use Rattle.terminal.specs.Messages.{is_under_way, is_due}
 use Rattle.terminal.specs.Settling.{is_withheld, no_answer, stores_data, stored_of}
 use Rattle.terminal.specs.Rules.{rule1_receive, faulty_of, begun_of, rule4, staged_of, moved_of, rules3to6}
-use Rattle.terminal.specs.Events.{time_of, nothing_legal, set_up_refusal, set_up_of, passed_of, taken_of, event_receive}
+use Rattle.terminal.specs.Events.{terminal_of, time_of, nothing_legal, set_up_refusal, set_up_of, passed_of, taken_of, event_receive}
 use Rattle.terminal.specs.declared.states.Own.{Own}
 use Rattle.terminal.specs.declared.states.Message.{Message}
 use Rattle.terminal.specs.declared.states.Setup.{Setup}
@@ -28,10 +28,11 @@ use Rattle.history.specs.Calls.{Call, set_up, event, host, clear_selftest, resta
 use Rattle.history.specs.Courses.{NoSetUp}
 use Rattle.history.specs.Demands.{RefusedSilent, FreshSilent, FreshBegins, SetUpBegins}
 use Rattle.history.proofs.Tests.{true≢, false≢, cond_cases, cond_same, and_right, or_cases}
-use Rattle.history.proofs.Steps.{stepped, refused_stays, run_append}
+use Rattle.history.proofs.Steps.{stepped, refused_stays, set_up_gives, set_up_refused, run_append}
 use Rattle.history.proofs.Passing.{passed_setup, passed_message}
 use Rattle.history.proofs.Moving.{rules_keep, asking_under_way, rules_hold}
 use Rattle.history.proofs.Givens.{Given, none, some, answer_cases}
+use Rattle.std.specs.Prelude.{Option}
 
 -- ---- the set-up stays
 
@@ -114,7 +115,7 @@ run_to_all s (k ∷ ks) above unset h =
 withheld_answer : (s : State) (k : Call) → ToAll s.message → answer_in s k ≡ no_answer
 withheld_answer s k h = go (answer_cases s k)
   where
-    go : {a : Answer} → Given s a → a ≡ no_answer
+    go : {o : Option Answer} → Given s o → o ≡ no_answer
     go none = refl
     go (some of) = unfold is_withheld in true≢ (rw (h of.under_way) at of.shown)
 
@@ -142,27 +143,21 @@ nothing_stored s e receive transmit same =
 
 -- ---- the statements
 
--- what a refused set-up gives
-refused_gives : (address : ℕ) (receive transmit : List ℕ) → is_set_up address receive transmit ≡ false
-    → (set_up_of address receive transmit).terminal ≡ fresh_of nothing_legal
-unfolding set_up_of
-refused_gives address receive transmit bad = rw bad
-
 pub refused_silent : RefusedSilent
 refused_silent address receive transmit bad =
-    rw (refused_gives address receive transmit bad) (
+    rw (set_up_refused address receive transmit bad) (
       fresh_silent nothing_legal (omega arith),
       λ ks unset e table transmit'. nothing_stored (run (fresh_of nothing_legal) ks) e table transmit' (run_setup (fresh_of nothing_legal) ks unset),
     )
 
 pub fresh_begins : FreshBegins
-unfolding set_up_of set_up_refusal
+unfolding set_up_refusal
 fresh_begins setup most receives transmits =
     let accepted : is_set_up setup.own.address setup.receive setup.transmit ≡ true =
     rw (receives, transmits, le-leb setup.own.address 30 most) in
-    (accepted, rw accepted)
+    (accepted, sym (set_up_gives setup.own.address setup.receive setup.transmit accepted))
 
-set_step : (s : State) (past : Past) → step s (set_up past.address past.receive past.transmit) ≡ (set_up_of past.address past.receive past.transmit).terminal
+set_step : (s : State) (past : Past) → step s (set_up past.address past.receive past.transmit) ≡ (terminal_of (set_up_of past.address past.receive past.transmit))
 unfolding step
 set_step s past = rw past.accepted
 

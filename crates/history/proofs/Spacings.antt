@@ -16,10 +16,10 @@ use Rattle.terminal.specs.Commands.{is_own, is_exempt, is_legal}
 use Rattle.terminal.specs.Messages.{is_under_way, is_on, is_counting, awaits_data, is_due, is_late, is_between, awaits_first, is_overdue, is_over, is_next_data, is_second}
 use Rattle.terminal.specs.Effects.{effect_of, held_after}
 use Rattle.terminal.specs.Rules.{settled_of, marked_of, kept_by, faulty_of, time_fault, rule3, noted_status, noted_command, rule4, fault_by, fault_in, next_data, next_word, rule5, rules3to6}
-use Rattle.terminal.specs.Events.{time_of, set_up_of, passed_of, taken_of}
+use Rattle.terminal.specs.Events.{terminal_of, time_of, set_up_of, passed_of, taken_of}
 use Rattle.terminal.specs.declared.states.Own.{Own}
 use Rattle.terminal.specs.declared.states.SpacingFault.{SpacingFault}
-use Rattle.terminal.specs.declared.states.SpacingFault.TheVariants.{None, Overlapping, Separated}
+use Rattle.terminal.specs.declared.states.SpacingFault.TheVariants.{Overlapping, Separated}
 use Rattle.terminal.specs.declared.states.Held.{Held}
 use Rattle.terminal.specs.declared.states.Phase.{Phase}
 use Rattle.terminal.specs.declared.states.Phase.TheVariants.{Idle, First, Pledged, Confirmed, Data}
@@ -28,39 +28,39 @@ use Rattle.terminal.specs.declared.states.Terminal.{Terminal as State}
 use Rattle.terminal.specs.declared.events.Event.{Event}
 use Rattle.terminal.specs.declared.events.Event.TheVariants.{Mark, Word}
 use Rattle.terminal.specs.declared.events.Happened.{Happened}
-use Rattle.terminal.specs.declared.setups.SetUp.{SetUp}
 use Rattle.history.specs.Calls.{Call, set_up, event, host, clear_selftest, restart, is_accepted, is_set_up, step, run}
 use Rattle.history.specs.States.{is_under_way_on, is_next_word, is_bad_word, no_fault, a_fault, word_kind, word_fault, time_kind}
 use Rattle.history.specs.Kinds.{Change, leaves, sets, by_fault, is_reset, by_event, change_by, after_change, last_kind, AllLeaveKind}
 use Rattle.history.specs.Demands.{SpacingKept, SpacingKeptAfterAnyPast, SpacingLatest, KindAsAMark}
 use Rattle.history.proofs.Tests.{true≢, false≢, cond_cases, or_false, or_cases}
-use Rattle.history.proofs.Steps.{stepped, refused_stays}
+use Rattle.history.proofs.Steps.{stepped, refused_stays, set_up_either}
 use Rattle.history.proofs.Phases.{awaits_missing, counts_awaits}
 use Rattle.history.proofs.Passing.{still, due_ends}
 use Rattle.history.proofs.Marks.{as_a_mark}
 use Rattle.history.proofs.Faults.{over_missing, over_not_due, due_in_time, bad_faulty, bad_under_way}
 use Rattle.history.proofs.Polling.{due_or_over, due_passed, over_passed, over_ends, passed_in_time}
+use Rattle.std.specs.Prelude.{Option, Some, None}
 
-abbrev kind_in : State → SpacingFault
+abbrev kind_in : State → Option SpacingFault
 kind_in s = spacing_in s.held
 
 -- ---- a fault
 
-kept_kind : (h : Held) (kind : SpacingFault) → spacing_in (kept_by h kind) ≡ after_change (spacing_in h) (by_fault (a_fault kind))
+kept_kind : (h : Held) (kind : Option SpacingFault) → spacing_in (kept_by h kind) ≡ after_change (spacing_in h) (by_fault (a_fault kind))
 unfolding spacing_in
 kept_kind h None = refl
-kept_kind h Overlapping = refl
-kept_kind h Separated = refl
+kept_kind h (Some Overlapping) = refl
+kept_kind h (Some Separated) = refl
 
 -- the mark leaves it
 marked_kind : (own : Own) (h : Held) (w : ℕ) → spacing_in (marked_of own h w) ≡ spacing_in h
 unfolding spacing_in
 marked_kind own h w = cond_cases (λ (x : Held). spacing_in x ≡ spacing_in h) (is_exempt own w) (λ e. refl) (λ e. refl)
 
-faulty_kind : (s : State) (kind : SpacingFault) → kind_in (faulty_of s kind) ≡ after_change (kind_in s) (by_fault (a_fault kind))
+faulty_kind : (s : State) (kind : Option SpacingFault) → kind_in (faulty_of s kind) ≡ after_change (kind_in s) (by_fault (a_fault kind))
 unfolding faulty_of
 faulty_kind s kind =
-    kept_kind _ kind ∙ ap (λ (x : SpacingFault). after_change x (by_fault (a_fault kind))) (marked_kind s.setup.own s.held s.message.command.0)
+    kept_kind _ kind ∙ ap (λ (x : Option SpacingFault). after_change x (by_fault (a_fault kind))) (marked_kind s.setup.own s.held s.message.command.0)
 
 -- ---- a settled message
 
@@ -93,7 +93,7 @@ module _ (own : Own) (h : Held) (code : ℕ) where
       (other 7 refl _ _ refl
       (reset _ _ refl (cond_cases (λ (x : Held). spacing_in x ≡ spacing_in h) (eqb code 17) (λ is. refl) (λ not. refl))))))))
 
-either_kind : (b c : Bool) (x y : Held) (kind : SpacingFault) → spacing_in x ≡ cond c None kind → spacing_in y ≡ kind → spacing_in (cond b x y) ≡ cond (b && c) None kind
+either_kind : (b c : Bool) (x y : Held) (kind : Option SpacingFault) → spacing_in x ≡ cond c None kind → spacing_in y ≡ kind → spacing_in (cond b x y) ≡ cond (b && c) None kind
 either_kind true c x y kind p q = p
 either_kind false c x y kind p q = q
 
@@ -145,11 +145,11 @@ good_kind s r good = go (rule3 s r) refl (is_own s.setup.own r) refl (is_under_w
     go false quiet false foreign true here false bad = true≢ (rw (quiet, foreign, here, bad) at good)
 
 -- a word that is not late is overlapping or back to back
-early_or_spaced : (last t : ℕ) → t ≤ last + spacing_most → fault_by (spacing_of last t) ≡ cond (ltb (since_of last t) spacing_least) Overlapping None
+early_or_spaced : (last t : ℕ) → t ≤ last + spacing_most → fault_by (spacing_of last t) ≡ cond (ltb (since_of last t) spacing_least) (Some Overlapping) None
 unfolding spacing_of
 early_or_spaced last t in_time_lem = go (ltb (since_of last t) spacing_least) refl
   where
-    go : (b : Bool) → ltb (since_of last t) spacing_least ≡ b → fault_by (spacing_of last t) ≡ cond b Overlapping None
+    go : (b : Bool) → ltb (since_of last t) spacing_least ≡ b → fault_by (spacing_of last t) ≡ cond b (Some Overlapping) None
     go true early = rw early refl
     go false not_early = rw (not_early, le-leb (since_of last t) spacing_most (omega (arith, in_time_lem))) refl
 
@@ -171,7 +171,7 @@ word_kind_lem s r in_time_lem = go (is_bad_word s r) refl
     go : (b : Bool) → is_bad_word s r ≡ b → kind_in (rules3to6 s r) ≡ after_change (kind_in s) (by_fault (cond b (a_fault (word_kind s.message r)) no_fault))
     go true bad =
         ap kind_in (bad_faulty s r bad) ∙ faulty_kind s (fault_in s.message r)
-        ∙ ap (λ (kind : SpacingFault). after_change (kind_in s) (by_fault (a_fault kind))) (or_false (is_late s.message r.time.0) (is_overdue s.message r.time.0) in_time_lem (λ not_late not_overdue. word_kinds s.message r not_late))
+        ∙ ap (λ (kind : Option SpacingFault). after_change (kind_in s) (by_fault (a_fault kind))) (or_false (is_late s.message r.time.0) (is_overdue s.message r.time.0) in_time_lem (λ not_late not_overdue. word_kinds s.message r not_late))
     go false good = good_kind s r good
 
 taken_kind : (s : State) (e : Event) → is_over s.message (time_of e) ≡ false → kind_in (taken_of s e) ≡ after_change (kind_in s) (by_fault (word_fault s e))
@@ -190,13 +190,13 @@ idle_sound s (Word r) idle = go (is_bad_word s r) refl
 -- ---- time
 
 -- one that awaits a data word, and no first one of another terminal, is late and not overdue
-direct_kind : (m : Message) → awaits_data m ≡ true → is_between m.phase ≡ false → time_fault m ≡ Separated
+direct_kind : (m : Message) → awaits_data m ≡ true → is_between m.phase ≡ false → time_fault m ≡ Some Separated
 unfolding time_fault is_overdue awaits_first
 direct_kind m awaits direct = rw (awaits, direct)
 
 -- one that awaits a first one of another terminal: the limit that was passed first
 first_kind : (m : Message) → awaits_data m ≡ true → is_between m.phase ≡ true
-    → time_fault m ≡ cond (leb (m.last.0 + 206) (m.start.0 + 751)) Separated None
+    → time_fault m ≡ cond (leb (m.last.0 + 206) (m.start.0 + 751)) (Some Separated) None
 unfolding time_fault is_overdue awaits_first
 first_kind m awaits between =
     rw (awaits, between, awaits_missing m awaits)
@@ -221,7 +221,7 @@ time_kinds m t over = go m.phase refl
 
 -- ---- an event
 
-reset_if : (b : Bool) (kind : SpacingFault) → after_change kind (cond b (sets None) leaves) ≡ cond b None kind
+reset_if : (b : Bool) (kind : Option SpacingFault) → after_change kind (cond b (sets None) leaves) ≡ cond b None kind
 reset_if true kind = refl
 reset_if false kind = refl
 
@@ -244,22 +244,22 @@ event_kind s e transmit = taken_kind (passed_of s (time_of e) transmit) e (passe
         let nothing = idle_sound (passed_of s (time_of e) transmit) e (over_ends s transmit (time_of e) over) in
         rw (nothing, over_not_due s.message (time_of e) over, over)
         (ap kind_in (over_passed s transmit (time_of e) over) ∙ faulty_kind s (time_fault s.message)
-        ∙ ap (λ (kind : SpacingFault). after_change (kind_in s) (by_fault (a_fault kind))) (time_kinds s.message (time_of e) over))
+        ∙ ap (λ (kind : Option SpacingFault). after_change (kind_in s) (by_fault (a_fault kind))) (time_kinds s.message (time_of e) over))
 
     waits : is_due s.message (time_of e) ≡ false → is_over s.message (time_of e) ≡ false → Fact
     waits not_due in_time_lem = rw (not_due, in_time_lem) (ap (λ (y : State). after_change (kind_in y) (by_fault (word_fault (passed_of s (time_of e) transmit) e))) (still s (time_of e) transmit not_due in_time_lem))
 
 -- ---- a call, and any calls
 
-set_up_fresh : (address : ℕ) (receive transmit : List ℕ) → kind_in (set_up_of address receive transmit).terminal ≡ None
-unfolding set_up_of spacing_in
-set_up_fresh address receive transmit = cond_cases (λ (x : SetUp). kind_in x.terminal ≡ None) (is_set_up address receive transmit) (λ set. refl) (λ bad. refl)
+set_up_fresh : (address : ℕ) (receive transmit : List ℕ) → kind_in (terminal_of (set_up_of address receive transmit)) ≡ None
+unfolding spacing_in
+set_up_fresh address receive transmit = set_up_either address receive transmit (λ (x : State). kind_in x ≡ None) (λ set. refl) (λ bad. refl)
 
 call_kind : (s : State) (k : Call) → kind_in (step s k) ≡ after_change (kind_in s) (change_by s k)
 unfolding step spacing_in
 call_kind s (set_up address receive transmit) = go (is_set_up address receive transmit)
   where
-    go : (b : Bool) → kind_in (cond b (set_up_of address receive transmit).terminal s) ≡ after_change (kind_in s) (cond b (sets None) leaves)
+    go : (b : Bool) → kind_in (cond b (terminal_of (set_up_of address receive transmit)) s) ≡ after_change (kind_in s) (cond b (sets None) leaves)
     go true = set_up_fresh address receive transmit
     go false = refl
 call_kind s (event e receive transmit) = go (is_accepted s e receive transmit) refl
@@ -275,16 +275,16 @@ call_kind s restart = refl
 pub spacing_kept : SpacingKept
 unfolding run
 spacing_kept s [] = refl
-spacing_kept s (k ∷ ks) = spacing_kept (step s k) ks ∙ ap (λ (kind : SpacingFault). last_kind (step s k) kind ks) (call_kind s k)
+spacing_kept s (k ∷ ks) = spacing_kept (step s k) ks ∙ ap (λ (kind : Option SpacingFault). last_kind (step s k) kind ks) (call_kind s k)
 
 pub spacing_kept_after_any_past : SpacingKeptAfterAnyPast
 spacing_kept_after_any_past past =
-    let s : State = (set_up_of past.address past.receive past.transmit).terminal in
+    let s : State = (terminal_of (set_up_of past.address past.receive past.transmit)) in
     spacing_kept s past.calls
-    ∙ ap (λ (kind : SpacingFault). last_kind s kind past.calls) (set_up_fresh past.address past.receive past.transmit)
+    ∙ ap (λ (kind : Option SpacingFault). last_kind s kind past.calls) (set_up_fresh past.address past.receive past.transmit)
 
 -- calls that do nothing to it leave it
-stays : (s : State) (kind : SpacingFault) (ks : List Call) → AllLeaveKind s ks → last_kind s kind ks ≡ kind
+stays : (s : State) (kind : Option SpacingFault) (ks : List Call) → AllLeaveKind s ks → last_kind s kind ks ≡ kind
 stays s kind [] all = refl
 stays s kind (k ∷ ks) all = ap (λ (c : Change). last_kind (step s k) (after_change kind c) ks) all.0 ∙ stays (step s k) kind ks all.1
 

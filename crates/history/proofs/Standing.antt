@@ -30,6 +30,7 @@ use Rattle.history.proofs.Tests.{false≢, cond_cases, and_left, and_right, or_c
 use Rattle.history.proofs.Phases.{due_under_way, over_under_way}
 use Rattle.history.proofs.Keeping.{kept_same}
 use Rattle.history.proofs.Steps.{stepped, refused_stays, refusal_keeps}
+use Rattle.std.specs.Prelude.{Option}
 
 -- ---- the two exempt commands
 
@@ -83,7 +84,7 @@ module _ {setup : Setup} {status : ℕ} where
         passing = λ h. false≢ h;
       }
 
-  faulty_stands : (s : State) (kind : SpacingFault) → Standing setup status s → is_under_way s.message.phase ≡ true → Standing setup status (faulty_of s kind)
+  faulty_stands : (s : State) (kind : Option SpacingFault) → Standing setup status s → is_under_way s.message.phase ≡ true → Standing setup status (faulty_of s kind)
   unfolding faulty_of
   faulty_stands s kind st on =
       let exempt : is_exempt s.setup.own s.message.command.0 ≡ true = rw st.same (st.passing on) in

@@ -10,15 +10,19 @@ use Rattle.words.specs.Words.{on_clock}
 use Rattle.records.specs.Records.{last_bus, in_range}
 use Rattle.records.specs.declared.forms.WordRecord.{WordRecord}
 use Rattle.records.proofs.Ranges.{in_range_time}
+use Rattle.terminal.specs.States.{own_of, setup_of, fresh_of}
 use Rattle.terminal.specs.Rules.{rule1_receive}
-use Rattle.terminal.specs.Events.{set_up_of, time_of, is_in_range, event_refusal, passed_of, taken_of, happens_of, refused_of, event_of, event_receive}
+use Rattle.terminal.specs.Events.{nothing_legal, set_up_refusal, set_up_by, set_up_of, terminal_of, time_of, is_in_range, event_refusal, passed_of, taken_of, happens_of, refused_of, event_of, event_receive}
 use Rattle.terminal.specs.declared.states.Terminal.{Terminal as State}
 use Rattle.terminal.specs.declared.events.Event.{Event}
 use Rattle.terminal.specs.declared.events.Event.TheVariants.{Mark, Word}
 use Rattle.terminal.specs.declared.events.Happened.{Happened}
 use Rattle.history.specs.Calls.{Call, set_up, event, host, clear_selftest, restart, is_accepted, is_set_up, is_refused, step, run}
-use Rattle.history.specs.Demands.{ShowsNumberAlone, RefusalsKeep}
+use Rattle.history.specs.Demands.{ShowsRefusal, ShowsNumberAlone, RefusalsKeep}
 use Rattle.history.proofs.Tests.{false≢}
+use Rattle.std.specs.Prelude.{Option, Some, None, is_none}
+use Rattle.words.specs.declared.refusals.Refusal.{Refusal}
+use Rattle.words.specs.declared.refusals.Refusal.TheVariants.{TableSize, OutOfRange, OutOfOrder}
 
 -- ---- an event
 module _ (s : State) (e : Event) (receive transmit : List ℕ) where
@@ -61,7 +65,7 @@ shown s e receive transmit h =
     go : (a : Bool) → (eqb (length receive) 1024 && eqb (length transmit) 1024) ≡ a
         → (b : Bool) → is_in_range e ≡ b
         → (d : Bool) → leb s.time.0 (time_of e) ≡ d
-        → eqb (cond a (cond b (cond d 0 6) 5) 1) 0 ≡ true
+        → is_none (cond a (cond b (cond d None (Some OutOfOrder)) (Some OutOfRange)) (Some TableSize)) ≡ true
         → Shown s e receive transmit
     go true p true q true l z = record { tables = p; ranged = q; ordered = l }
     go true p true q false l z = false≢ z
@@ -86,6 +90,29 @@ mark_accepted s r receive transmit ok =
     let p = shown s (Word r) receive transmit ok in
     accepts s (Mark r.time) receive transmit (record { tables = p.tables; ranged = record_on_clock r p.ranged; ordered = p.ordered })
 
+-- ---- a set-up
+module _ (address : ℕ) (receive transmit : List ℕ) where
+  -- it gives the fresh terminal of what it was lent, or that with nothing legal
+  pub set_up_either : (P : State → Type 0)
+      → (is_set_up address receive transmit ≡ true → P (fresh_of (setup_of (own_of address) receive transmit)))
+      → (is_set_up address receive transmit ≡ false → P (fresh_of nothing_legal))
+      → P (terminal_of (set_up_of address receive transmit))
+  unfolding set_up_of
+  set_up_either P f g = go (set_up_refusal address (length receive) (length transmit)) refl
+    where
+      go : (o : Option Refusal) → set_up_refusal address (length receive) (length transmit) ≡ o
+          → P (terminal_of (set_up_by o (fresh_of (setup_of (own_of address) receive transmit))))
+      go None is = f (ap (λ (o : Option Refusal). is_none o) is)
+      go (Some refusal) is = g (ap (λ (o : Option Refusal). is_none o) is)
+
+  pub set_up_gives : is_set_up address receive transmit ≡ true
+      → terminal_of (set_up_of address receive transmit) ≡ fresh_of (setup_of (own_of address) receive transmit)
+  set_up_gives ok =
+      set_up_either (λ (x : State). x ≡ fresh_of (setup_of (own_of address) receive transmit)) (λ is. refl) (λ bad. false≢ (sym bad ∙ ok))
+
+  pub set_up_refused : is_set_up address receive transmit ≡ false → terminal_of (set_up_of address receive transmit) ≡ fresh_of nothing_legal
+  set_up_refused bad = set_up_either (λ (x : State). x ≡ fresh_of nothing_legal) (λ ok. false≢ (sym bad ∙ ok)) (λ is. refl)
+
 -- ---- a refused call
 pub refusal_keeps : (s : State) (k : Call) → is_refused s k ≡ true → step s k ≡ s
 unfolding step
@@ -95,9 +122,17 @@ refusal_keeps s (host setting) h = false≢ h
 refusal_keeps s clear_selftest h = false≢ h
 refusal_keeps s restart h = false≢ h
 
-shows_number_alone : (s : State) (k : Call) → is_refused s k ≡ true → ShowsNumberAlone s k
+shows_refusal : (address : ℕ) (receive transmit : List ℕ) → is_set_up address receive transmit ≡ false → ShowsRefusal address receive transmit
 unfolding set_up_of
-shows_number_alone s (set_up address receive transmit) h = rw (not-true (is_set_up address receive transmit) h)
+shows_refusal address receive transmit = go (set_up_refusal address (length receive) (length transmit)) refl
+  where
+    go : (o : Option Refusal) → set_up_refusal address (length receive) (length transmit) ≡ o → is_set_up address receive transmit ≡ false
+        → ShowsRefusal address receive transmit
+    go None is bad = false≢ (sym bad ∙ ap (λ (o : Option Refusal). is_none o) is)
+    go (Some refusal) is bad = record { refusal = refusal; number = is; alone = rw is refl }
+
+shows_number_alone : (s : State) (k : Call) → is_refused s k ≡ true → ShowsNumberAlone s k
+shows_number_alone s (set_up address receive transmit) h = shows_refusal address receive transmit (not-true (is_set_up address receive transmit) h)
 shows_number_alone s (event e receive transmit) h =
     let bad = not-true (is_accepted s e receive transmit) h in
     (refused s e receive transmit bad, refused_table s e receive transmit bad)

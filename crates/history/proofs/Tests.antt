@@ -1,6 +1,7 @@
 -- What a test that passed, or failed, says. Assumes nothing.
-use mathlib.Core.Path.{◌≡◌, refl, sym}
+use mathlib.Core.Path.{◌≡◌, refl, sym, ap}
 use mathlib.Core.Bool.{Bool, true, false, cond, ◌&&◌, ◌||◌, true≢false}
+use Rattle.std.specs.Prelude.{Option, Some, None, is_some}
 
 -- a test does not go both ways
 pub true≢ : {X : Type 0} → true ≡ false → X
@@ -8,6 +9,17 @@ true≢ h = absurd (true≢false h)
 
 pub false≢ : {X : Type 0} → false ≡ true → X
 false≢ h = true≢ (sym h)
+
+-- what there is, is one thing, and is not nothing
+abbrev value_or : {A : Type 0} → A → Option A → A
+value_or x None = x
+value_or x (Some y) = y
+
+pub some_same : {A : Type 0} (x y : A) → Some x ≡ Some y → x ≡ y
+some_same x y h = ap (value_or x) h
+
+pub none≢ : {X A : Type 0} {x : A} → None ≡ Some x → X
+none≢ {A = A} h = false≢ (ap (λ (o : Option A). is_some o) h)
 
 -- a choice has what both sides have, each where its test goes that way
 pub cond_cases : {A : Type 0} (P : A → Type 0) (b : Bool) {x y : A} → (b ≡ true → P x) → (b ≡ false → P y) → P (cond b x y)

@@ -19,7 +19,8 @@ use Rattle.terminal.specs.declared.states.Sending.{Sending}
 use Rattle.terminal.specs.declared.states.Terminal.{Terminal as State}
 use Rattle.terminal.proofs.Counts.{awaited_most}
 use Rattle.history.specs.States.{is_to, is_opening, Waiting, Window}
-use Rattle.history.proofs.Tests.{false≢, cond_cases, and_right}
+use Rattle.history.proofs.Tests.{false≢, none≢, some_same, cond_cases, and_right}
+use Rattle.std.specs.Prelude.{Option, Some}
 
 -- ---- at a later time
 
@@ -68,8 +69,12 @@ module _ (own : Own) (now : ℕ) (r : WordRecord) (at : r.time.0 ≤ now) where
 
 -- it begins at the due time, and has a status word and the data words
 pub window_settled : (s : State) (own : Own) (t count : ℕ) → Waiting own t s.message → s.message.last.0 + due_distance ≤ t → count ≤ 32
-    → (sending_of s count).on ≡ true
-    → Window t (sending_of s count)
+    → (v : Sending) → sending_of s count ≡ Some v
+    → Window t v
 unfolding sending_of
 window_settled s own t count w due few =
-    cond_cases (λ (v : Sending). v.on ≡ true → Window t v) (is_withheld s) (λ e. false≢) (λ e on. omega arith)
+    cond_cases (λ (o : Option Sending). (v : Sending) → o ≡ Some v → Window t v) (is_withheld s) (λ e v. none≢)
+    (λ e v is.
+    let sent : Sending = record { from = record { 0 = s.message.last.0 + due_distance }; words = count + 1; bus = s.message.bus } in
+    let begins : Window t sent = omega arith in
+    rw (some_same sent v is) at begins)

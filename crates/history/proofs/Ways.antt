@@ -33,6 +33,7 @@ use Rattle.history.proofs.Steps.{accepted, stepped, refused, refused_stays, refu
 use Rattle.history.proofs.Passing.{still}
 use Rattle.history.proofs.Marks.{passed_over}
 use Rattle.history.proofs.Phases.{counting_under_way}
+use Rattle.std.specs.Prelude.{Option}
 
 -- the terminal as the command left it, but for the host's parts, the self-test request, the time and the message, which is now m
 pub record Way (begun : State) (m : Message) (s : State) : Type 0 where
@@ -212,7 +213,7 @@ module _ (begun : State) {m : Message} {s : State} (way : Way begun m s) {bus co
   is_on_lem = rw (way.message, counting_under_way m.phase g.counts, g.on, eq-eqb bus r.bus (sym next.on))
 
   not_sending : is_sending s.sending r.bus r.time.0 ≡ false
-  not_sending = ap (λ (x : Sending). is_sending x r.bus r.time.0) way.sending ∙ (unfold is_sending in refl)
+  not_sending = ap (λ (x : Option Sending). is_sending x r.bus r.time.0) way.sending ∙ (unfold is_sending in refl)
 
   moved : step s (event (Word r) receive transmit) ≡ with_message (at_time s r.time.0) (staged_of s.message r)
   moved =

@@ -1,5 +1,5 @@
 -- No word on one bus wipes out a fault marked on the other: from the fault on, message error stays and is answered with. Assumes nothing.
-use mathlib.Core.Path.{◌≡◌, refl, sym, ap, ◌∙◌}
+use mathlib.Core.Path.{◌≡◌, refl, sym, ◌∙◌}
 use Prim.Native.Nat.{ℕ, ◌≤◌}
 use mathlib.Core.Bool.{Bool, true, false, ◌||◌, or-true}
 use mathlib.Core.List.{List, []}
@@ -22,7 +22,7 @@ use Rattle.terminal.specs.declared.events.Event.TheVariants.{Mark, Word}
 use Rattle.history.specs.Calls.{Call, event, is_accepted, is_refused, step, run, answer_in}
 use Rattle.history.specs.Courses.{is_ignored, leaves_status}
 use Rattle.history.specs.States.{marks_fault}
-use Rattle.history.specs.Demands.{composing, AnswersWith, Stands, NoWipe, StatusStands}
+use Rattle.history.specs.Demands.{due_answer, composing, AnswersWith, Stands, NoWipe, StatusStands}
 use Rattle.history.proofs.Tests.{false≢, and_left, and_right, or_cases}
 use Rattle.history.proofs.Steps.{stepped}
 use Rattle.history.proofs.Begun.{own_command}
@@ -31,11 +31,12 @@ use Rattle.history.proofs.Standing.{Standing, exempt_awaits, exempt_settled, tak
 use Rattle.history.proofs.Answered.{answered}
 use Rattle.history.proofs.Givens.{given_message}
 use Rattle.history.proofs.Faults.{has_bad_word, fault_either, over_faulty, bad_faulty, bad_under_way, passed_still}
+use Rattle.std.specs.Prelude.{Option, Some}
 
 -- ---- the fault
 
 -- a message made faulty, of a command that is not exempt
-faulty_marked : (s : State) (kind : SpacingFault) → is_exempt s.setup.own s.message.command.0 ≡ false
+faulty_marked : (s : State) (kind : Option SpacingFault) → is_exempt s.setup.own s.message.command.0 ≡ false
     → Standing s.setup (with_flag MessageError s.held.status.0) (faulty_of s kind)
 unfolding faulty_of
 faulty_marked s kind plain = record {
@@ -89,18 +90,19 @@ standing_reported s st few r receive transmit k exempt ks end course e receive' 
     rw (k.accepted, own, exempt) (or-true (is_ignored s k1)) in
     let next = call_stands s (event (Word r) receive transmit) st outside in
     let none : 0 ≡ awaited_of r.word = sym (exempt_awaits s.setup.own r.word exempt) in
-    let answer = (answered s (rw st.same few) r receive transmit k [] none ks end course e receive' transmit' ok then).answer in
+    let carried = (answered s (rw st.same few) r receive transmit k [] none ks end course e receive' transmit' ok then).answer in
     let exempt' : is_exempt begun.setup.own r.word ≡ true = rw (next.same, ← st.same) exempt in
     record {
-      given = ap (λ (a : Answer). a.given) answer;
-      on = ap (λ (a : Answer). a.bus) answer;
-      says = ap (λ (a : Answer). a.status.0) answer ∙ exempt_settled (composing begun ks) r.word exempt' ∙ next.holds;
+      answer = due_answer (composing begun ks) r end transmit';
+      given = carried;
+      on = refl;
+      says = exempt_settled (composing begun ks) r.word exempt' ∙ next.holds;
     }
 
 -- no call carries an answer with another
-standing_said : {setup : Setup} {status : ℕ} (s : State) → Standing setup status s → (k : Call) → (answer_in s k).given ≡ true → (answer_in s k).status.0 ≡ status
-standing_said s st k given =
-    let of = given_message s k given in
+standing_said : {setup : Setup} {status : ℕ} (s : State) → Standing setup status s → (k : Call) (a : Answer) → answer_in s k ≡ Some a → a.status.0 ≡ status
+standing_said s st k a given =
+    let of = given_message s k a given in
     of.status ∙ exempt_settled s s.message.command.0 (rw st.same (st.passing of.under_way)) ∙ st.holds
 
 standing_stands : {setup : Setup} {status : ℕ} (s : State) → Standing setup status s → setup.own.address ≤ 30 → Stands s status

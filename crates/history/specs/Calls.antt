@@ -1,10 +1,9 @@
 -- Demand 3, "After any calls at all": the calls, and the terminal after a list of them. Assumes nothing.
-use Rattle.std.specs.Prelude.{◌≡◌, ℕ, Bool, true, false, not, cond, ◌&&◌, List, [], ◌∷◌, eqb, length}
-use Rattle.words.specs.Refusals.{not_refused}
+use Rattle.std.specs.Prelude.{◌≡◌, ℕ, Bool, true, false, not, cond, ◌&&◌, List, [], ◌∷◌, length, Option, is_none}
 use Rattle.terminal.specs.States.{with_service, with_busy, with_subsystem, with_terminal_fault, with_vector_word, with_bit_word, with_host}
 use Rattle.terminal.specs.Commands.{is_own}
 use Rattle.terminal.specs.Settling.{no_answer}
-use Rattle.terminal.specs.Events.{set_up_refusal, set_up_of, event_refusal, event_of, selftest_cleared, restarted_of}
+use Rattle.terminal.specs.Events.{set_up_refusal, set_up_of, terminal_of, event_refusal, event_of, selftest_cleared, restarted_of}
 use Rattle.terminal.specs.declared.states.Host.{Host}
 use Rattle.terminal.specs.declared.states.Terminal.{Terminal as State}
 use Rattle.terminal.specs.declared.answers.Answer.{Answer}
@@ -33,10 +32,10 @@ pub data Call : Type 0 where
 -- ---- accepted and refused
 
 abbrev pub is_accepted : State → Event → List ℕ → List ℕ → Bool
-is_accepted s e receive transmit = eqb (event_refusal s e (length receive) (length transmit)) not_refused
+is_accepted s e receive transmit = is_none (event_refusal s e (length receive) (length transmit))
 
 abbrev pub is_set_up : ℕ → List ℕ → List ℕ → Bool
-is_set_up address receive transmit = eqb (set_up_refusal address (length receive) (length transmit)) not_refused
+is_set_up address receive transmit = is_none (set_up_refusal address (length receive) (length transmit))
 
 -- "No other call is refused."
 abbrev pub is_refused : State → Call → Bool
@@ -59,7 +58,7 @@ host_of h (bit_word word) = with_bit_word h word
 -- A refused set-up hands back a terminal that never answers: a caller who takes it is in `refused_silent`'s case. Here the terminal that there was
 -- goes on.
 unfoldable pub step : State → Call → State
-step s (set_up address receive transmit) = cond (is_set_up address receive transmit) (set_up_of address receive transmit).terminal s
+step s (set_up address receive transmit) = cond (is_set_up address receive transmit) (terminal_of (set_up_of address receive transmit)) s
 step s (event e receive transmit) = (event_of s e receive transmit).terminal
 step s (host setting) = with_host s (host_of s.host setting)
 step s clear_selftest = selftest_cleared s
@@ -80,12 +79,12 @@ pub record Past : Type 0 where
   pub calls : List Call
 
 abbrev pub after_past : Past → State
-after_past past = run (set_up_of past.address past.receive past.transmit).terminal past.calls
+after_past past = run (terminal_of (set_up_of past.address past.receive past.transmit)) past.calls
 
 -- ---- what a call carries and brings
 
 -- the answer that it carries
-abbrev pub answer_in : State → Call → Answer
+abbrev pub answer_in : State → Call → Option Answer
 answer_in s (set_up address receive transmit) = no_answer
 answer_in s (event e receive transmit) = (event_of s e receive transmit).answer
 answer_in s (host setting) = no_answer

@@ -4,10 +4,10 @@
 -- gives never answers; what an own command does to what is under way; what can be reached, and what every answer's status has; histories that meet every
 -- premise. A statement is a type; its proof has the name above it and stands in proofs/. `Calls`, `Courses`, `Exchanges`, `States`, `Kinds`, `Witnesses`
 -- and `Faults` say the words. Assumes nothing.
-use Rattle.std.specs.Prelude.{◌≡◌, ℕ, ◌+◌, ◌≤◌, ◌<◌, Bool, true, false, cond, ◌&&◌, List, [], ◌∷◌, ◌++◌, ◌⊎◌, T, length}
+use Rattle.std.specs.Prelude.{◌≡◌, ℕ, ◌+◌, ◌≤◌, ◌<◌, Bool, true, false, cond, ◌&&◌, List, [], ◌∷◌, ◌++◌, ◌⊎◌, T, length, Option, Some, None, Result, Err}
 use Rattle.std.proofs.Math.Seq.{paste}
 use Rattle.words.specs.Words.{due_distance, gap_of, address_of, words_of, is_transmit, is_mode, has_flag, with_flag, has_no_other, awaited_of}
-use Rattle.words.specs.Refusals.{not_refused}
+use Rattle.words.specs.declared.refusals.Refusal.{Refusal}
 use Rattle.words.specs.declared.times.Moment.{Moment}
 use Rattle.words.specs.declared.statuses.Flag.TheVariants.{MessageError}
 use Rattle.records.specs.declared.forms.WordRecord.{WordRecord}
@@ -16,18 +16,15 @@ use Rattle.terminal.specs.Commands.{is_own, is_exempt}
 use Rattle.terminal.specs.Messages.{is_under_way, is_sending, next_moment_of}
 use Rattle.terminal.specs.Settling.{other_bus, settled_status, first_place, reply_of, stores_data, no_answer}
 use Rattle.terminal.specs.Rules.{begun_of, rule3}
-use Rattle.terminal.specs.Events.{time_of, set_up_refusal, nothing_legal, set_up_of, event_refusal, passed_of, refused_of, event_of, event_receive}
+use Rattle.terminal.specs.Events.{time_of, set_up_refusal, nothing_legal, set_up_of, terminal_of, event_refusal, passed_of, refused_of, event_of, event_receive}
 use Rattle.terminal.specs.declared.states.SpacingFault.{SpacingFault}
-use Rattle.terminal.specs.declared.states.SpacingFault.TheVariants.{None}
 use Rattle.terminal.specs.declared.states.Setup.{Setup}
 use Rattle.terminal.specs.declared.states.Terminal.{Terminal as State}
 use Rattle.terminal.specs.declared.answers.Answer.{Answer}
-use Rattle.terminal.specs.declared.messages.NextMoment.{NextMoment}
-use Rattle.terminal.specs.declared.messages.NextMoment.TheVariants.{At, Never}
 use Rattle.terminal.specs.declared.events.Event.{Event}
 use Rattle.terminal.specs.declared.events.Event.TheVariants.{Mark, Word}
 use Rattle.terminal.specs.declared.events.Happened.{Happened}
-use Rattle.terminal.specs.declared.setups.SetUp.{SetUp}
+use Rattle.terminal.specs.declared.setups.RefusedSetUp.{RefusedSetUp}
 use Rattle.history.specs.Calls.{Call, set_up, event, host, clear_selftest, restart, is_accepted, is_set_up, is_refused, step, run, Past, after_past, answer_in, brings_own}
 use Rattle.history.specs.Courses.{Command, Course, Silent, NoOwn, NoSetUp, leaves_status, AllLeaveStatus}
 use Rattle.history.specs.States.{is_under_way_on, marks_fault, ComesToFault, AtRest, Sound}
@@ -47,7 +44,6 @@ composing begun ks = with_host begun (run begun ks).host
 -- status and the data words by the settling definitions, from the flags, the words and the transmit table of the event
 abbrev pub due_answer : State → WordRecord → ℕ → List ℕ → Answer
 due_answer s r end transmit = record {
-  given = true;
   bus = r.bus;
   due = record { 0 = end + due_distance };
   status = record { 0 = settled_status s r.word };
@@ -64,9 +60,9 @@ due_table s r words receive =
 -- with its tables.
 pub record Carried (begun : State) (r : WordRecord) (words : List ℕ) (ks : List Call) (end : ℕ) (e : Event) (receive transmit : List ℕ) : Type 0 where
   -- "Then the first event accepted at or after the due time carries exactly one answer, .. with the contents that demand 2 defines."
-  pub answer : (event_of (run begun ks) e receive transmit).answer ≡ due_answer (composing begun ks) r end transmit
+  pub answer : (event_of (run begun ks) e receive transmit).answer ≡ Some (due_answer (composing begun ks) r end transmit)
   -- "its status word 8.0 microseconds after the last word": 80 ticks from the middle of its parity bit
-  pub gap : gap_of end (event_of (run begun ks) e receive transmit).answer.due.0 ≡ 80
+  pub gap : (a : Answer) → (event_of (run begun ks) e receive transmit).answer ≡ Some a → gap_of end a.due.0 ≡ 80
   -- and the data words are stored
   pub table : event_receive (run begun ks) e receive transmit ≡ due_table (composing begun ks) r words receive
   -- "exactly one": no call before it carries an answer
@@ -80,9 +76,9 @@ pub record Carried (begun : State) (r : WordRecord) (words : List ℕ) (ks : Lis
   -- and no call ever after carries it again, also where e brings such a command: until a set-up, every later answer is due 260 after e or later
   pub later : (more : List Call)
       → NoSetUp (step (run begun ks) (event e receive transmit)) more
-      → (k : Call)
-      → (answer_in (run (step (run begun ks) (event e receive transmit)) more) k).given ≡ true
-      → time_of e + due_distance ≤ (answer_in (run (step (run begun ks) (event e receive transmit)) more) k).due.0
+      → (k : Call) (a : Answer)
+      → answer_in (run (step (run begun ks) (event e receive transmit)) more) k ≡ Some a
+      → time_of e + due_distance ≤ a.due.0
 
 -- of one terminal
 abbrev pub AnsweredFrom : State → Type 0
@@ -205,7 +201,7 @@ AsAMarkOnceSettled =
 -- What a mark gave, and the event then, with the receive table after it, against the event alone with its table: the event is accepted, terminal,
 -- receive table and what was cut are the same after it, and the answer, where there is one, is carried once, by one of the two.
 pub record Unseen (mark then : Happened) (table : List ℕ) (alone : Happened) (table_alone : List ℕ) : Type 0 where
-  pub accepted : then.refusal.0 ≡ not_refused
+  pub accepted : then.refusal ≡ None
   pub terminal : then.terminal ≡ alone.terminal
   pub receive : table ≡ table_alone
   pub cut : then.cut ≡ alone.cut
@@ -237,7 +233,7 @@ MarksDoNotMatterAfterAnyPast = (past : Past) → UnseenFrom (after_past past)
 abbrev pub Passes : State → Moment → List ℕ → List ℕ → Type 0
 Passes s t receive transmit =
     (event_of s (Mark t) receive transmit
-    ≡ record { refusal = record { 0 = not_refused }; answer = no_answer; cut = false; terminal = at_time s t.0 })
+    ≡ record { refusal = None; answer = no_answer; cut = false; terminal = at_time s t.0 })
     × (event_receive s (Mark t) receive transmit ≡ receive)
 
 -- It ends the message under way.
@@ -246,11 +242,11 @@ EndsMessage s t receive transmit =
     (is_under_way s.message.phase ≡ true) × ((step s (event (Mark t) receive transmit)).message ≡ no_message)
 
 -- Where `moment` is none, or before it, an accepted time mark does nothing; at it or later it ends the message.
-abbrev pub MattersExactly : State → NextMoment → Type 0
+abbrev pub MattersExactly : State → Option Moment → Type 0
 MattersExactly s moment =
     (t : Moment) (receive transmit : List ℕ) → is_accepted s (Mark t) receive transmit ≡ true
-    → (moment ≡ Never → Passes s t receive transmit)
-    × ((next : Moment) → moment ≡ At next → (t.0 < next.0 → Passes s t receive transmit) × (next.0 ≤ t.0 → EndsMessage s t receive transmit))
+    → (moment ≡ None → Passes s t receive transmit)
+    × ((next : Moment) → moment ≡ Some next → (t.0 < next.0 → Passes s t receive transmit) × (next.0 ≤ t.0 → EndsMessage s t receive transmit))
 
 -- moment_exactly: of every terminal, and the next moment that is worked out of its message
 abbrev pub MomentExactly : Type 0
@@ -262,7 +258,7 @@ MomentExactlyAfterAnyPast = (past : Past) → MattersExactly (after_past past) (
 
 -- told_ahead: and that one is still to come: it is later than the last accepted event
 abbrev pub ToldAhead : Type 0
-ToldAhead = (past : Past) (next : Moment) → moment_in (after_past past) ≡ At next → (after_past past).time.0 < next.0
+ToldAhead = (past : Past) (next : Moment) → moment_in (after_past past) ≡ Some next → (after_past past).time.0 < next.0
 
 -- ==== kept_moment: "Store it in the terminal's state and have every event, host call, restart and refusal leave it equal to what document 01 would work
 -- out." (02 e)
@@ -306,12 +302,12 @@ SpacingKept = (s : State) (ks : List Call) → spacing_in (run s ks).held ≡ la
 abbrev pub SpacingKeptAfterAnyPast : Type 0
 SpacingKeptAfterAnyPast =
     (past : Past)
-    → spacing_in (after_past past).held ≡ last_kind (set_up_of past.address past.receive past.transmit).terminal None past.calls
+    → spacing_in (after_past past).held ≡ last_kind (terminal_of (set_up_of past.address past.receive past.transmit)) None past.calls
 
 -- spacing_latest: once a call set it, it is that kind until another call sets it
 abbrev pub SpacingLatest : Type 0
 SpacingLatest =
-    (s : State) (k : Call) (kind : SpacingFault) → change_by s k ≡ sets kind
+    (s : State) (k : Call) (kind : Option SpacingFault) → change_by s k ≡ sets kind
     → (ks : List Call) → AllLeaveKind (step s k) ks
     → spacing_in (run (step s k) ks).held ≡ kind
 
@@ -327,10 +323,11 @@ KindAsAMark =
 -- ==== no_wipe: "What I fear most: a word on bus B wipes out a fault marked a moment before on bus A."
 
 -- an answer on that bus with that status
-pub record Reports (a : Answer) (bus status : ℕ) : Type 0 where
-  pub given : a.given ≡ true
-  pub on : a.bus ≡ bus
-  pub says : a.status.0 ≡ status
+pub record Reports (o : Option Answer) (bus status : ℕ) : Type 0 where
+  pub answer : Answer
+  pub given : o ≡ Some answer
+  pub on : answer.bus ≡ bus
+  pub says : answer.status.0 ≡ status
 
 -- the next transmit status word or transmit last command, on a bus whose transmitter is on and on which it is not sending, answers with that
 -- status, with nothing more on its bus, no own command on the other, no restart and no set-up before the answer
@@ -348,7 +345,7 @@ AnswersWith s status =
 pub record Stands (s : State) (status : ℕ) : Type 0 where
   pub held : s.held.status.0 ≡ status
   -- no call carries an answer with another
-  pub says : (k : Call) → (answer_in s k).given ≡ true → (answer_in s k).status.0 ≡ status
+  pub says : (k : Call) (a : Answer) → answer_in s k ≡ Some a → a.status.0 ≡ status
   -- and the two exempt commands are answered
   pub answers : AnswersWith s status
 
@@ -401,17 +398,21 @@ StatusStandsAfterAnyPast = (past : Past) → StatusStandsFrom (after_past past)
 
 -- ==== refusals_keep: "A refusal gives the number in our table and changes no state and no lent table or buffer." (demand 1)
 
--- a refused set-up gives the number, and a terminal that never answers: `refused_silent`
-abbrev pub refused_set_up : ℕ → List ℕ → List ℕ → SetUp
-refused_set_up address receive transmit =
-    record { refusal = record { 0 = set_up_refusal address (length receive) (length transmit) }; terminal = fresh_of nothing_legal }
+-- a refused set-up gives the refusal, and a terminal that never answers: `refused_silent`
+abbrev pub refused_set_up : Refusal → Result State RefusedSetUp
+refused_set_up refusal = Err (record { terminal = fresh_of nothing_legal; refusal = refusal })
+
+pub record ShowsRefusal (address : ℕ) (receive transmit : List ℕ) : Type 0 where
+  pub refusal : Refusal
+  pub number : set_up_refusal address (length receive) (length transmit) ≡ Some refusal
+  pub alone : set_up_of address receive transmit ≡ refused_set_up refusal
 
 -- a refused event gives the number and nothing else, a refused set-up that and the terminal above
 abbrev pub ShowsNumberAlone : State → Call → Type 0
 ShowsNumberAlone s (event e receive transmit) =
     (event_of s e receive transmit ≡ refused_of s (event_refusal s e (length receive) (length transmit)))
     × (event_receive s e receive transmit ≡ receive)
-ShowsNumberAlone s (set_up address receive transmit) = set_up_of address receive transmit ≡ refused_set_up address receive transmit
+ShowsNumberAlone s (set_up address receive transmit) = ShowsRefusal address receive transmit
 ShowsNumberAlone s (host setting) = Unit {0}
 ShowsNumberAlone s clear_selftest = Unit {0}
 ShowsNumberAlone s restart = Unit {0}
@@ -430,7 +431,7 @@ NeverStores s =
 abbrev pub RefusedSilent : Type 0
 RefusedSilent =
     (address : ℕ) (receive transmit : List ℕ) → is_set_up address receive transmit ≡ false
-    → NeverAnswers (set_up_of address receive transmit).terminal × NeverStores (set_up_of address receive transmit).terminal
+    → NeverAnswers (terminal_of (set_up_of address receive transmit)) × NeverStores (terminal_of (set_up_of address receive transmit))
 
 -- fresh_silent: and of `Terminal::fresh` with an own address above 30, which no accepted set-up gives, that it never answers
 abbrev pub FreshSilent : Type 0
@@ -441,7 +442,7 @@ abbrev pub FreshBegins : Type 0
 FreshBegins =
     (setup : Setup) → setup.own.address ≤ 30 → length setup.receive ≡ 32 → length setup.transmit ≡ 32
     → (is_set_up setup.own.address setup.receive setup.transmit ≡ true)
-    × (fresh_of setup ≡ (set_up_of setup.own.address setup.receive setup.transmit).terminal)
+    × (fresh_of setup ≡ terminal_of (set_up_of setup.own.address setup.receive setup.transmit))
 
 -- set_up_begins: and whatever was before it, an accepted set-up begins one; so no calls are left out
 abbrev pub SetUpBegins : Type 0
@@ -508,9 +509,9 @@ Reachable = (past : Past) → Sound (after_past past)
 -- bus control acceptance 0002 (always 0, house)"
 abbrev pub AnswersPlain : Type 0
 AnswersPlain =
-    (past : Past) (k : Call) → (answer_in (after_past past) k).given ≡ true
-    → (address_of (answer_in (after_past past) k).status.0 ≡ (after_past past).setup.own.address)
-    × (has_no_other (answer_in (after_past past) k).status.0 ≡ true)
+    (past : Past) (k : Call) (a : Answer) → answer_in (after_past past) k ≡ Some a
+    → (address_of a.status.0 ≡ (after_past past).setup.own.address)
+    × (has_no_other a.status.0 ≡ true)
 
 -- ==== witness: one history meets every premise of `answered`
 abbrev pub Witness : Type 0

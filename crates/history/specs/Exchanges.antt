@@ -1,6 +1,6 @@
 -- The words in which a message between terminals is said: its whole course to the answer, the wait for its first data word (02 b), and histories worked
 -- out. Assumes nothing.
-use Rattle.std.specs.Prelude.{◌≡◌, ℕ, ◌+◌, ◌-◌, ◌≤◌, Bool, true, false, cond, List, [], ◌∷◌, ◌++◌, eqb, leb, length}
+use Rattle.std.specs.Prelude.{◌≡◌, ℕ, ◌+◌, ◌-◌, ◌≤◌, Bool, true, false, cond, List, [], ◌∷◌, ◌++◌, eqb, leb, length, Option, Some, None}
 use Rattle.words.specs.Words.{due_distance, gap_of, parity_of, address_of, count_of, is_transmit, is_mode, is_broadcast, is_spaced, command_sync, awaited_of}
 use Rattle.words.specs.declared.times.Moment.{Moment}
 use Rattle.records.specs.declared.forms.WordRecord.{WordRecord}
@@ -12,8 +12,6 @@ use Rattle.terminal.specs.Cards.{mark, heard, command, data_word, bad_word, is_a
 use Rattle.terminal.specs.declared.states.Phase.{Phase}
 use Rattle.terminal.specs.declared.states.Phase.TheVariants.{Idle, First, Pledged, Confirmed, Data}
 use Rattle.terminal.specs.declared.states.Terminal.{Terminal as State}
-use Rattle.terminal.specs.declared.messages.NextMoment.{NextMoment}
-use Rattle.terminal.specs.declared.messages.NextMoment.TheVariants.{At, Never}
 use Rattle.terminal.specs.declared.events.Event.TheVariants.{Word}
 use Rattle.history.specs.Calls.{Call, set_up, event, host, restart, busy, is_accepted, is_set_up, step, run}
 use Rattle.history.specs.Courses.{Command, NextWord, may_come, Course, NoOwn}
@@ -87,17 +85,17 @@ pub record Waits (s : State) (r : WordRecord) (receive transmit : List ℕ) (ks 
 
 -- The next moment of such a message, by the times of its command and of its last word: a second command word may come until 205 after its command; a
 -- status of the other terminal until 750 after it, though no data word can be in time behind it then (DECISIONS 6); behind that status both limits hold.
-abbrev pub moment_while : Phase → ℕ → ℕ → NextMoment
-moment_while Idle start last = Never
-moment_while First start last = At (record { 0 = start + 206 })
-moment_while (Pledged address) start last = At (record { 0 = start + 751 })
-moment_while Confirmed start last = At (record { 0 = cond (leb (last + 206) (start + 751)) (last + 206) (start + 751) })
-moment_while Data start last = At (record { 0 = start + 206 })
+abbrev pub moment_while : Phase → ℕ → ℕ → Option Moment
+moment_while Idle start last = None
+moment_while First start last = Some (record { 0 = start + 206 })
+moment_while (Pledged address) start last = Some (record { 0 = start + 751 })
+moment_while Confirmed start last = Some (record { 0 = cond (leb (last + 206) (start + 751)) (last + 206) (start + 751) })
+moment_while Data start last = Some (record { 0 = start + 206 })
 
 -- there is a next moment, and it is not past that time
-pub record NotPast (limit : ℕ) (next : NextMoment) : Type 0 where
+pub record NotPast (limit : ℕ) (next : Option Moment) : Type 0 where
   pub moment : Moment
-  pub told : next ≡ At moment
+  pub told : next ≡ Some moment
   pub most : moment.0 ≤ limit
 
 -- ---- histories worked out

@@ -1,6 +1,6 @@
 -- Histories of a fault worked out: one that meets every premise of `no_wipe`, and for each premise one that breaks it and loses the mark, or the
 -- answer with it. "Address 5, all legal, fresh", as on the bench cards. Assumes nothing.
-use Rattle.std.specs.Prelude.{◌≡◌, ◌+◌, ◌-◌, ◌≤◌, Bool, true, not, ◌&&◌, List, [], ◌∷◌, ◌++◌}
+use Rattle.std.specs.Prelude.{◌≡◌, ◌+◌, ◌-◌, ◌≤◌, Bool, true, not, ◌&&◌, List, [], ◌∷◌, ◌++◌, false, Option, Some, None}
 use Rattle.words.specs.Words.{due_distance, parity_of, command_sync, has_flag}
 use Rattle.words.specs.declared.statuses.Flag.TheVariants.{MessageError}
 use Rattle.records.specs.declared.forms.WordRecord.{WordRecord}
@@ -115,8 +115,9 @@ wipes =
     ∷ []
 
 -- an event carries an answer with message error; a time mark at 3260 does
-unfoldable pub reports : Answer → Bool
-reports a = a.given && has_flag MessageError a.status.0
+unfoldable pub reports : Option Answer → Bool
+reports None = false
+reports (Some a) = has_flag MessageError a.status.0
 
 unfoldable pub reports_at_3260 : List Call → Bool
 reports_at_3260 calls = reports (event_of (bench_after calls) (mark 3260) zeros zeros).answer

@@ -1,11 +1,11 @@
 -- The kind of the last spacing fault, told call by call, each of the terminal that it meets (02 i). Assumes nothing.
-use Rattle.std.specs.Prelude.{◌≡◌, ℕ, Bool, cond, ◌&&◌, List, [], ◌∷◌, eqb}
+use Rattle.std.specs.Prelude.{◌≡◌, ℕ, Bool, cond, ◌&&◌, List, [], ◌∷◌, eqb, Option, Some, None}
 use Rattle.words.specs.Words.{code_of, is_mode}
 use Rattle.terminal.specs.Commands.{is_legal}
 use Rattle.terminal.specs.Messages.{is_due}
 use Rattle.terminal.specs.Events.{time_of}
 use Rattle.terminal.specs.declared.states.SpacingFault.{SpacingFault}
-use Rattle.terminal.specs.declared.states.SpacingFault.TheVariants.{None, Overlapping, Separated}
+use Rattle.terminal.specs.declared.states.SpacingFault.TheVariants.{Overlapping, Separated}
 use Rattle.terminal.specs.declared.states.Terminal.{Terminal as State}
 use Rattle.terminal.specs.declared.events.Event.{Event}
 use Rattle.history.specs.Calls.{Call, set_up, event, host, clear_selftest, restart, is_accepted, is_set_up, step}
@@ -14,14 +14,14 @@ use Rattle.history.specs.States.{EventFault, no_fault, a_fault, fault_of}
 -- What a call does to the kind: nothing, or it sets it, to none where it makes the terminal fresh.
 pub data Change : Type 0 where
   leaves : Change
-  sets : SpacingFault → Change
+  sets : Option SpacingFault → Change
 
 -- "keeps the kind of its last spacing fault" (02 i): a fault of another cause leaves it (DECISIONS 74)
 abbrev pub by_fault : EventFault → Change
 by_fault no_fault = leaves
 by_fault (a_fault None) = leaves
-by_fault (a_fault Overlapping) = sets Overlapping
-by_fault (a_fault Separated) = sets Separated
+by_fault (a_fault (Some Overlapping)) = sets (Some Overlapping)
+by_fault (a_fault (Some Separated)) = sets (Some Separated)
 
 -- the message under way is of a legal code 8, which makes the terminal fresh once it is settled
 abbrev pub is_reset : State → Bool
@@ -40,11 +40,11 @@ change_by s clear_selftest = leaves
 change_by s restart = sets None
 
 -- the kind after a call, and after a list of calls
-abbrev pub after_change : SpacingFault → Change → SpacingFault
+abbrev pub after_change : Option SpacingFault → Change → Option SpacingFault
 after_change kind leaves = kind
 after_change kind (sets other) = other
 
-abbrev pub last_kind : State → SpacingFault → List Call → SpacingFault
+abbrev pub last_kind : State → Option SpacingFault → List Call → Option SpacingFault
 last_kind s kind [] = kind
 last_kind s kind (k ∷ ks) = last_kind (step s k) (after_change kind (change_by s k)) ks
 

@@ -1,5 +1,5 @@
 -- Faults as they are marked, what stands, and what every terminal that can be reached is like. Assumes nothing.
-use Rattle.std.specs.Prelude.{◌≡◌, ℕ, ◌+◌, ◌≤◌, Bool, true, false, not, cond, ◌&&◌, ◌||◌, List, eqb, ltb, leb, length}
+use Rattle.std.specs.Prelude.{◌≡◌, ℕ, ◌+◌, ◌≤◌, Bool, true, false, not, cond, ◌&&◌, ◌||◌, List, eqb, ltb, leb, length, Option, Some, None}
 use Rattle.words.specs.Words.{on_clock, since_of, spacing_least, address_of, is_broadcast, is_transmit, is_mode, has_no_other, awaited_of}
 use Rattle.records.specs.Records.{last_bus}
 use Rattle.records.specs.declared.forms.WordRecord.{WordRecord}
@@ -9,7 +9,7 @@ use Rattle.terminal.specs.Rules.{rule1, faulty_of, rule2, rule3}
 use Rattle.terminal.specs.Events.{time_of, passed_of, taken_of}
 use Rattle.terminal.specs.declared.states.Own.{Own}
 use Rattle.terminal.specs.declared.states.SpacingFault.{SpacingFault}
-use Rattle.terminal.specs.declared.states.SpacingFault.TheVariants.{None, Overlapping, Separated}
+use Rattle.terminal.specs.declared.states.SpacingFault.TheVariants.{Overlapping, Separated}
 use Rattle.terminal.specs.declared.states.Held.{Held}
 use Rattle.terminal.specs.declared.states.Phase.{Phase}
 use Rattle.terminal.specs.declared.states.Phase.TheVariants.{Idle, First, Pledged, Confirmed, Data}
@@ -43,7 +43,7 @@ is_bad_word s r =
 -- none, or one and its kind where it is a spacing fault (02 i)
 pub data EventFault : Type 0 where
   no_fault : EventFault
-  a_fault : SpacingFault → EventFault
+  a_fault : Option SpacingFault → EventFault
 
 abbrev pub is_fault : EventFault → Bool
 is_fault no_fault = false
@@ -51,8 +51,8 @@ is_fault (a_fault kind) = true
 
 -- The kind of a bad word, said apart from the terminal's own (`fault_in`): "overlapping (below 195)" where a data word is awaited; above 205 rule 2 was
 -- first (02 i; DECISIONS 74).
-abbrev pub word_kind : Message → WordRecord → SpacingFault
-word_kind m r = cond (awaits_data m && ltb (since_of m.last.0 r.time.0) spacing_least) Overlapping None
+abbrev pub word_kind : Message → WordRecord → Option SpacingFault
+word_kind m r = cond (awaits_data m && ltb (since_of m.last.0 r.time.0) spacing_least) (Some Overlapping) None
 
 -- by its word, rule 5
 abbrev pub word_fault : State → Event → EventFault
@@ -61,12 +61,12 @@ word_fault s (Word r) = cond (is_bad_word s r) (a_fault (word_kind s.message r))
 
 -- The kind of a fault by time, said apart from the terminal's own (`time_fault`): "separated (above 205)" by rule 2 (02 i), none by the limit of 02 b.
 -- After the status of another terminal both hold, and the one whose moment came first counts (DECISIONS 78).
-abbrev pub time_kind : Phase → Message → SpacingFault
+abbrev pub time_kind : Phase → Message → Option SpacingFault
 time_kind Idle m = None
-time_kind First m = Separated
+time_kind First m = Some Separated
 time_kind (Pledged address) m = None
-time_kind Confirmed m = cond (leb (m.last.0 + 206) (m.start.0 + 751)) Separated None
-time_kind Data m = Separated
+time_kind Confirmed m = cond (leb (m.last.0 + 206) (m.start.0 + 751)) (Some Separated) None
+time_kind Data m = Some Separated
 
 -- by its time, rule 2 and the limit of 02 b, or by its word
 abbrev pub fault_of : State → Event → List ℕ → EventFault
@@ -81,7 +81,7 @@ marks_fault s e transmit = not (is_exempt s.setup.own s.message.command.0) && is
 pub record MadeFaulty (s next : State) : Type 0 where
   pub under_way : is_under_way s.message.phase ≡ true
   pub marked : is_exempt s.setup.own s.message.command.0 ≡ false
-  pub kind : SpacingFault
+  pub kind : Option SpacingFault
   pub faulty : next ≡ faulty_of s kind
 
 -- The rules of an event come to it: rule 2 at its time, once rule 1 is done, or its record, once rules 1 and 2 are done.
@@ -154,6 +154,6 @@ pub record Sound (s : State) : Type 0 where
   pub time : on_clock s.time.0 ≡ true
   pub held : Holding s.setup.own s.held
   pub message : is_under_way s.message.phase ≡ true → Waiting s.setup.own s.time.0 s.message
-  pub sending : s.sending.on ≡ true → Window s.time.0 s.sending
+  pub sending : (w : Sending) → s.sending ≡ Some w → Window s.time.0 w
   -- an own command ends any sending
-  pub alone : is_under_way s.message.phase ≡ true → s.sending.on ≡ false
+  pub alone : is_under_way s.message.phase ≡ true → s.sending ≡ None

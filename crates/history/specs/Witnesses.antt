@@ -1,10 +1,10 @@
 -- Histories worked out: one that meets every premise of `answered`, and for each premise one that breaks it and loses the answer. "Address 5, all
 -- legal, fresh", as on the bench cards. Assumes nothing.
-use Rattle.std.specs.Prelude.{◌≡◌, ℕ, ◌+◌, ◌-◌, ◌^◌, ◌≤◌, Bool, true, false, not, ◌&&◌, List, [], ◌∷◌, ◌++◌, length, replicate}
+use Rattle.std.specs.Prelude.{◌≡◌, ℕ, ◌+◌, ◌-◌, ◌^◌, ◌≤◌, Bool, true, false, not, ◌&&◌, List, [], ◌∷◌, ◌++◌, length, replicate, Some, is_some}
 use Rattle.words.specs.Words.{due_distance, parity_of, command_sync, awaited_of}
 use Rattle.records.specs.declared.forms.WordRecord.{WordRecord}
 use Rattle.terminal.specs.States.{own_of, setup_of, fresh_of}
-use Rattle.terminal.specs.Events.{time_of, set_up_of, event_of}
+use Rattle.terminal.specs.Events.{time_of, set_up_of, terminal_of, event_of}
 use Rattle.terminal.specs.Cards.{mark, heard, command, data_word, bad_word, zeros}
 use Rattle.terminal.specs.declared.states.Terminal.{Terminal as State}
 use Rattle.terminal.specs.declared.answers.Answer.{Answer}
@@ -21,7 +21,7 @@ unfoldable pub all_legal : List ℕ
 all_legal = replicate 32 (2 ^ 32 - 1)
 
 unfoldable pub bench_after : List Call → State
-bench_after past = run (set_up_of 5 all_legal all_legal).terminal past
+bench_after past = run (terminal_of (set_up_of 5 all_legal all_legal)) past
 
 -- ---- a history that meets every premise
 
@@ -65,7 +65,7 @@ begun = step (bench_after past) (event (Word asked) zeros zeros)
 
 -- its answer: on A, due 1660, the own address with service request, no data words
 unfoldable pub given : Answer
-given = record { given = true; bus = 0; due = record { 0 = 1660 }; status = record { 0 = 0x2900 }; count = 0; words = replicate 32 0 }
+given = record { bus = 0; due = record { 0 = 1660 }; status = record { 0 = 0x2900 }; count = 0; words = replicate 32 0 }
 
 unfoldable pub sent : List ℕ
 sent = 0x0007 ∷ 0x0009 ∷ []
@@ -83,13 +83,13 @@ pub record Met : Type 0 where
   pub runs : Course 0 begun 1000 sent noise 1400
   pub accepted : is_accepted (run begun noise) first zeros zeros ≡ true
   pub then : 1400 + due_distance ≤ time_of first
-  pub answer : (event_of (run begun noise) first zeros zeros).answer ≡ given
+  pub answer : (event_of (run begun noise) first zeros zeros).answer ≡ Some given
 
 -- ---- for each premise, a history that breaks it
 
 -- After these calls the event carries an answer; a time mark at 1660 does.
 unfoldable pub answers_to : State → Event → List ℕ → Bool
-answers_to s e receive = (event_of s e receive zeros).answer.given
+answers_to s e receive = is_some (event_of s e receive zeros).answer
 
 unfoldable pub answers_at_1660 : List Call → Bool
 answers_at_1660 calls = answers_to (bench_after calls) (mark 1660) zeros
