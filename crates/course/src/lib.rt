@@ -36,8 +36,9 @@ fn answered(sum: u64, answer: Option<Answer>) -> u64 {
         return sum;
     };
     let words = answer.words;
-    let numbers =
-        ((answer.status.0 as u64) << 48) ^ ((answer.count as u64) << 32) ^ (words[0] as u64);
+    let numbers = ((answer.status.0 as u64) << 48)
+        ^ ((answer.count as u64) << 32)
+        ^ (words[0] as u64);
     wrapping_add_u64(turned(sum), answer.due.0 ^ numbers)
 }
 
@@ -92,9 +93,8 @@ fn host(terminal: Terminal, kind: u8, word: u16) -> Terminal {
 
 // The host writes the transmit table.
 fn send(heard: WordRecord, transmit: &mut [u16; 1024]) {
-    let place = heard.time.0 as usize;
-    if place < 1024 {
-        transmit[place] = heard.word;
+    if let Some(word) = transmit.get_mut(heard.time.0 as usize) {
+        *word = heard.word;
     }
 }
 
@@ -111,27 +111,27 @@ fn event_of(kind: u8, heard: WordRecord) -> Event {
 fn play(calls: &[u8], ask: bool, receive: &mut [u16; 1024], transmit: &mut [u16; 1024]) -> u64 {
     let mut happened = start(5);
     let mut sum = 0;
-    let mut at = 0;
-    while at < calls.len() {
-        let kind = calls[at];
-        let Ok(heard) = read_record(&calls[at + 1..], LAST_BUS) else {
+    for call in calls.chunks_exact(CALL_BYTES) {
+        let kind = call[0];
+        let Ok(heard) = read_record(&call[1..], LAST_BUS) else {
             return sum;
         };
         let terminal = happened.terminal;
-        if (kind == RECORD) | (kind == MARK) {
-            happened = terminal.event(event_of(kind, heard), receive, transmit);
-            sum = match happened.refusal {
-                Some(refusal) => refused(sum, refusal),
-                None => answered(sum, happened.answer),
-            };
-            sum = asked(sum, happened.terminal, ask);
-        } else if kind == SEND {
-            send(heard, transmit);
-        } else {
-            let next = host(terminal, kind, heard.word);
-            happened.terminal = next;
+        match kind {
+            RECORD | MARK => {
+                happened = terminal.event(event_of(kind, heard), receive, transmit);
+                sum = match happened.refusal {
+                    Some(refusal) => refused(sum, refusal),
+                    None => answered(sum, happened.answer),
+                };
+                sum = asked(sum, happened.terminal, ask);
+            }
+            SEND => send(heard, transmit),
+            _ => {
+                let next = host(terminal, kind, heard.word);
+                happened.terminal = next;
+            }
         }
-        at += CALL_BYTES;
     }
     sum
 }
