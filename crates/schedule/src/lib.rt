@@ -7,5 +7,5 @@ mod planner;
 mod schedules;
 mod searches;
 
-pub use messages::Message;
+pub use messages::{Message, is_period};
 pub use schedules::{FRAMES, Frames, MESSAGES_MOST, Rejection, Schedule};

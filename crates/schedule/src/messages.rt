@@ -17,8 +17,9 @@ pub struct Message {
 }
 
 // Says whether messages can have this period.
+// Tables: none. Refusals: none.
 #[tactic(auto, unfolding(crate::specs::Messages::is_period))]
-fn is_period(period: u64) -> bool
+pub fn is_period(period: u64) -> bool
     ensures answer { result ≡ is_period period }
 {
     matches!(period, 1 | 2 | 4 | 8 | 16 | 32 | 64)
