@@ -1,27 +1,23 @@
 // What the arguments ask (docs/LINES.md, busplan). Refusals: none; a wrong argument is said on standard error, and then nothing else is done.
 use crate::complaints::PROGRAM;
-use lines::{NAME_BYTES, is_dash, is_same, remark};
+use lines::{NAME_BYTES, is_dash, remark};
 use status::{ask, count_arguments, is_name, is_option};
 use std::num::wrapping_add_usize;
 
-// a place that no argument has
-const NO_PLACE: usize = usize::MAX;
-
-// The options, and the place of the argument behind those that were looked at: of FILE, in the end. That of OUT is NO_PLACE where there is none.
+// The options, with the place of OUT, if it is asked for, and the place of the argument behind those that were looked at: of FILE, in the end.
 #[derive(Clone, Copy)]
 pub(crate) struct Options {
     pub(crate) in_words: bool,
-    pub(crate) out: usize,
+    pub(crate) out: Option<usize>,
     pub(crate) at: usize,
 }
 
-// What a call asks for: the usage, nothing that is clear, nothing since an argument is wrong, or a plan.
+// Why a call asks for no plan: it asks for the usage, for nothing that is clear, or an argument is wrong.
 #[derive(Clone, Copy)]
-pub(crate) enum Call {
+pub(crate) enum NoPlan {
     Help,
     Unclear,
     Wrong,
-    Plan(Options),
 }
 
 // What an argument is where an option may stand.
@@ -35,33 +31,27 @@ enum Argument {
     File,
 }
 
-// What one argument, with its value, led to.
+// What one argument, with its value, led to: more may follow, or FILE does.
 #[derive(Clone, Copy)]
 enum Step {
     More(Options),
     File(Options),
-    Help,
-    Wrong,
 }
 
 // Gives what an argument is. One that is too long for a name has a length of 0, and is looked at as one.
 fn argument_of(text: &[u8]) -> Argument {
-    if is_same(text, b"-v") {
-        return Argument::InWords;
+    match text {
+        b"-v" => Argument::InWords,
+        b"-o" => Argument::Out,
+        b"-h" | b"--help" => Argument::Help,
+        b"--" => Argument::Last,
+        _ => {
+            if is_option(text) {
+                return Argument::Unknown;
+            }
+            Argument::File
+        }
     }
-    if is_same(text, b"-o") {
-        return Argument::Out;
-    }
-    if is_same(text, b"-h") || is_same(text, b"--help") {
-        return Argument::Help;
-    }
-    if is_same(text, b"--") {
-        return Argument::Last;
-    }
-    if is_option(text) {
-        return Argument::Unknown;
-    }
-    Argument::File
 }
 
 // Says whether the argument at a place names a file that can be made. Where it does not, standard error says why.
@@ -79,7 +69,7 @@ fn is_new_name(rt: HostRuntime, place: usize) -> bool {
     if !is_name(&PROGRAM, b"OUT", asked) {
         return false;
     }
-    if is_dash(&name[..asked.length]) {
+    if is_dash(&name[..asked.unwrap_or(0)]) {
         remark(
             &PROGRAM,
             b"OUT",
@@ -91,9 +81,9 @@ fn is_new_name(rt: HostRuntime, place: usize) -> bool {
 }
 
 // Says what is wrong with an argument.
-fn refuse(argument: &[u8], why: &[u8]) -> Step {
+fn refuse(argument: &[u8], why: &[u8]) -> Result<Step, NoPlan> {
     remark(&PROGRAM, argument, why);
-    Step::Wrong
+    Err(NoPlan::Wrong)
 }
 
 impl Options {
@@ -101,7 +91,7 @@ impl Options {
     fn start(first: usize) -> Options {
         Options {
             in_words: false,
-            out: NO_PLACE,
+            out: None,
             at: first,
         }
     }
@@ -113,38 +103,38 @@ impl Options {
         next
     }
 
-    fn take_in_words(self) -> Step {
+    fn take_in_words(self) -> Result<Step, NoPlan> {
         if self.in_words {
             return refuse(b"-v", b" is given twice");
         }
         let mut next = self.after(1);
         next.in_words = true;
-        Step::More(next)
+        Ok(Step::More(next))
     }
 
-    fn take_out(self, rt: HostRuntime) -> Step {
-        if self.out != NO_PLACE {
+    fn take_out(self, rt: HostRuntime) -> Result<Step, NoPlan> {
+        if self.out.is_some() {
             return refuse(b"-o", b" is given twice");
         }
         let place = self.after(1).at;
         if !is_new_name(rt, place) {
-            return Step::Wrong;
+            return Err(NoPlan::Wrong);
         }
         let mut next = self.after(2);
-        next.out = place;
-        Step::More(next)
+        next.out = Some(place);
+        Ok(Step::More(next))
     }
 
     // Takes the argument behind those that were looked at.
-    fn step(self, rt: HostRuntime) -> Step {
+    fn step(self, rt: HostRuntime) -> Result<Step, NoPlan> {
         let mut text = [0u8; NAME_BYTES];
-        let length = ask(rt, self.at, &mut text).length;
+        let length = ask(rt, self.at, &mut text).unwrap_or(0);
         match argument_of(&text[..length]) {
             Argument::InWords => self.take_in_words(),
             Argument::Out => self.take_out(rt),
-            Argument::Help => Step::Help,
-            Argument::Last => Step::File(self.after(1)),
-            Argument::File => Step::File(self),
+            Argument::Help => Err(NoPlan::Help),
+            Argument::Last => Ok(Step::File(self.after(1))),
+            Argument::File => Ok(Step::File(self)),
             Argument::Unknown => refuse(
                 &text[..length],
                 b" is no option; a file of that name goes behind --",
@@ -152,35 +142,27 @@ impl Options {
         }
     }
 
-    // Gives the call with these options: one argument must be left, the name of the plan.
-    fn with_file(self, rt: HostRuntime) -> Call {
+    // Gives the options, where one argument is left, the name of the plan.
+    fn with_file(self, rt: HostRuntime) -> Result<Options, NoPlan> {
         if count_arguments(rt) == self.after(1).at {
-            return Call::Plan(self);
+            return Ok(self);
         }
-        Call::Unclear
+        Err(NoPlan::Unclear)
     }
 }
 
 // Reads the arguments from a place on. Each step takes one, so that there are no more steps than arguments.
-pub(crate) fn read_call(rt: HostRuntime, first: usize) -> Call {
+pub(crate) fn read_call(rt: HostRuntime, first: usize) -> Result<Options, NoPlan> {
     let mut options = Options::start(first);
-    let mut left = count_arguments(rt);
-    while left > 0 {
-        match options.step(rt) {
+    for _ in 0..count_arguments(rt) {
+        match options.step(rt)? {
             Step::More(next) => {
                 options = next;
             }
             Step::File(next) => {
                 return next.with_file(rt);
             }
-            Step::Help => {
-                return Call::Help;
-            }
-            Step::Wrong => {
-                return Call::Wrong;
-            }
         }
-        left -= 1;
     }
-    Call::Unclear
+    Err(NoPlan::Unclear)
 }

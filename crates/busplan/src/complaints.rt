@@ -2,7 +2,7 @@
 // it, and the usage. Refusals: none.
 use crate::flaws::put_flaw;
 use lines::{Block, Sink, Target, begin_complaint};
-use plans::Fault;
+use plans::{BadLine, Fault};
 use schedule::Message;
 use status::Status;
 
@@ -29,6 +29,8 @@ example: bus plan season.plan >season.lines && echo it holds
     )
 }
 
+// Each sentence is a function of its own: what they share is how they begin and end.
+
 // Begins a sentence of a file: "busplan: NAME".
 fn begin(name: &[u8]) -> Sink {
     begin_complaint(&PROGRAM, name);
@@ -47,38 +49,27 @@ fn end(sink: Sink, block: &mut Block, text: &[u8]) {
     sink.put_text(block, text).put(block, b'\n').flush(block);
 }
 
-// Ends a sentence by what is wrong with a line.
-fn end_fault(sink: Sink, block: &mut Block, fault: Fault) {
+// Gives what is wrong with a line, in words.
+fn text_of(fault: Fault) -> &'static [u8] {
     match fault {
-        Fault::None => end(sink, block, b""),
-        Fault::Unknown => end(
-            sink,
-            block,
-            b": it begins neither with capacity nor with message",
-        ),
-        Fault::NoSign => end(
-            sink,
-            block,
-            b": it has a control byte; parts stand apart by spaces alone, no tab and no carriage return",
-        ),
-        Fault::TooLong => end(sink, block, b": it is longer than any line of a plan"),
-        Fault::CapacityParts => end(sink, block, b": capacity wants TICKS, or FRAME TICKS"),
-        Fault::MessageParts => end(sink, block, b": message wants C1 [C2] PERIOD [FIRST]"),
-        Fault::Command => end(sink, block, b": a command word has four hexadecimal digits"),
-        Fault::Number => end(
-            sink,
-            block,
-            b": a number has 1 to 20 decimal digits and is below 2^64",
-        ),
-        Fault::Frame => end(sink, block, b": a frame is 0 to 63"),
+        Fault::Unknown => b": it begins neither with capacity nor with message",
+        Fault::NoSign => {
+            b": it has a control byte; parts stand apart by spaces alone, no tab and no carriage return"
+        }
+        Fault::TooLong => b": it is longer than any line of a plan",
+        Fault::CapacityParts => b": capacity wants TICKS, or FRAME TICKS",
+        Fault::MessageParts => b": message wants C1 [C2] PERIOD [FIRST]",
+        Fault::Command => b": a command word has four hexadecimal digits",
+        Fault::Number => b": a number has 1 to 20 decimal digits and is below 2^64",
+        Fault::Frame => b": a frame is 0 to 63",
     }
 }
 
 // Says what is wrong with a line: "busplan: NAME: line 3: a frame is 0 to 63".
-pub(crate) fn complain_of_line(name: &[u8], number: u64, fault: Fault) {
+pub(crate) fn complain_of_line(name: &[u8], bad: BadLine) {
     let mut block = io::large_buffer();
-    let begun = begin(name).put_number(&mut block, b": line ", number);
-    end_fault(begun, &mut block, fault);
+    let begun = begin(name).put_number(&mut block, b": line ", bad.line);
+    end(begun, &mut block, text_of(bad.fault));
 }
 
 // Says why a message is refused.

@@ -3,40 +3,30 @@ use crate::complaints::{
     complain_of_count, complain_of_first, complain_of_flaw, complain_of_frame, complain_of_place,
     complain_of_planner, complain_of_room,
 };
-use crate::trials::{NO_MESSAGE, first_homeless, first_refused};
+use crate::trials::{first_homeless, first_refused};
 use plans::Draft;
-use schedule::{Frames, Schedule};
-
-// Gives the sum, or the last number where it does not fit.
-fn plus(a: u64, b: u64) -> u64 {
-    if a > u64::MAX - b {
-        return u64::MAX;
-    }
-    a + b
-}
+use schedule::{FRAMES, Frames, MESSAGES_MOST, Schedule};
 
 // Gives the sum over all frames, or the last number where it does not fit.
 fn total(numbers: &Frames) -> u64 {
-    let mut sum = 0;
-    let mut i = 0;
-    while i < 64 {
-        sum = plus(sum, numbers[i]);
-        i += 1;
+    let mut sum: u64 = 0;
+    for number in numbers {
+        sum = sum.saturating_add(*number);
     }
     sum
 }
 
 // Gives what the messages load all frames with: the same whatever their first frames are, below their periods.
 fn total_load(schedule: Schedule) -> u64 {
-    let firsts = [0u64; 64];
-    let mut loads = [0u64; 64];
+    let firsts = [0u64; FRAMES];
+    let mut loads = [0u64; FRAMES];
     schedule.loads(&firsts, &mut loads);
     total(&loads)
 }
 
 // Gives the line of a message, also of the 65th.
 fn line_of(draft: Draft, number: u64) -> u64 {
-    if number < 65 {
+    if number <= MESSAGES_MOST {
         return draft.lines[number as usize];
     }
     0
@@ -45,19 +35,18 @@ fn line_of(draft: Draft, number: u64) -> u64 {
 // Says which message is the first that is refused, and why. Where none of the 64 is, there is one more.
 pub(crate) fn explain_refusal(draft: Draft, name: &[u8]) {
     let schedule = draft.schedule;
-    let number = first_refused(schedule);
-    let line = line_of(draft, number);
-    if number < NO_MESSAGE {
-        let message = schedule.messages[number as usize];
-        return complain_of_flaw(name, number, line, message);
+    match first_refused(schedule) {
+        Some((number, message)) => {
+            complain_of_flaw(name, number, line_of(draft, number), message)
+        }
+        None => complain_of_count(name, MESSAGES_MOST, line_of(draft, MESSAGES_MOST)),
     }
-    complain_of_count(name, number, line)
 }
 
 // Says why a message is rejected.
 pub(crate) fn explain_first(draft: Draft, name: &[u8], number: u64) {
     let schedule = draft.schedule;
-    if number < NO_MESSAGE {
+    if number < MESSAGES_MOST {
         let message = schedule.messages[number as usize];
         let first = draft.firsts[number as usize];
         complain_of_first(name, number, line_of(draft, number), first, message.period);
@@ -68,9 +57,9 @@ pub(crate) fn explain_first(draft: Draft, name: &[u8], number: u64) {
 pub(crate) fn explain_frame(draft: Draft, name: &[u8], frame: u64) {
     let schedule = draft.schedule;
     let firsts = draft.firsts;
-    let mut loads = [0u64; 64];
+    let mut loads = [0u64; FRAMES];
     schedule.loads(&firsts, &mut loads);
-    if frame < 64 {
+    if frame < FRAMES as u64 {
         let capacity = draft.capacities[frame as usize];
         complain_of_frame(name, frame, loads[frame as usize], capacity);
     }
@@ -80,9 +69,7 @@ pub(crate) fn explain_frame(draft: Draft, name: &[u8], frame: u64) {
 pub(crate) fn explain_none(draft: Draft, name: &[u8]) {
     let schedule = draft.schedule;
     let capacities = draft.capacities;
-    let number = first_homeless(schedule, &capacities);
-    if number < NO_MESSAGE {
-        let message = schedule.messages[number as usize];
+    if let Some((number, message)) = first_homeless(schedule, &capacities) {
         return complain_of_place(name, number, line_of(draft, number), message.load());
     }
     let load = total_load(schedule);

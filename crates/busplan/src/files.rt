@@ -9,10 +9,10 @@ use std::fs::File;
 use std::os::fd::AsRawFd;
 use texts::put_plan;
 
-// Writes what waits for the file, and where not all of it is on the disk gives the system's number for why.
+// Writes what waits for the file, and where not all of it is on the disk gives the system's number for why, as the sentence will have it.
 fn close(sink: Sink, block: &Block, file: &File) -> Result<(), i32> {
     let after = sink.flush(block);
-    if after.failed {
+    if after.failure.is_some() {
         return Err(failure_of(file));
     }
     file.sync_all().map_err(number_of)

@@ -1,34 +1,20 @@
 // Why a message is refused, in words of document 01 (01 Controller verdicts, Mode codes; 02 j). The check has refused it; this only explains, and
 // names the first part that is wrong. Refusals: none.
 use lines::{Block, Sink};
-use schedule::Message;
-use words::{CommandWord, Listing};
+use schedule::{Message, is_period};
+use words::CommandWord;
 
 // what the check refuses and nothing here explains: there is none
 const IMPOSSIBLE: [u8; 26] = *b": it is an impossible plan";
 
-// Says whether messages can have this period: the numbers that 02 j lists are those that divide the 64 frames.
-fn is_period(period: u64) -> bool {
-    if period == 0 {
-        return false;
-    }
-    64 % period == 0
-}
-
 // Says whether the code table lists the T/R bit and the code of a mode command.
 fn is_listed(command: CommandWord) -> bool {
-    match words::look_up(command) {
-        Listing::Reserved => false,
-        _ => true,
-    }
+    words::look_up(command).is_some()
 }
 
 // Gives the other T/R bit.
 fn other_bit(command: CommandWord) -> u16 {
-    if command.is_transmit() {
-        return 0;
-    }
-    1
+    u16::from(!command.is_transmit())
 }
 
 // Puts what the code table has against a mode command.

@@ -13,13 +13,13 @@ mod readers;
 mod runs;
 mod trials;
 
-use arguments::{Call, Options, read_call};
+use arguments::{NoPlan, Options, read_call};
 use complaints::{PROGRAM, show_usage};
 use lines::NAME_BYTES;
-use runs::plan;
-use status::{Begun, Status, ask, is_name};
+use runs::Job;
+use status::{Status, ask, is_name};
 
-// Checks or proposes the schedule of the file that the arguments name. Where they ask for no new file, its name has no byte.
+// Checks or proposes the schedule of the file that the arguments name.
 fn plan_named(rt: HostRuntime, options: Options) -> Status {
     let mut name = [0u8; NAME_BYTES];
     let asked = ask(rt, options.at, &mut name);
@@ -27,24 +27,28 @@ fn plan_named(rt: HostRuntime, options: Options) -> Status {
         return Status::Usage;
     }
     let mut out = [0u8; NAME_BYTES];
-    let named = ask(rt, options.out, &mut out).length;
-    let name = &name[..asked.length];
-    Status::of(plan(rt, name, &out[..named], options.in_words))
+    let named = match options.out {
+        Some(place) => ask(rt, place, &mut out).unwrap_or(0),
+        None => 0,
+    };
+    let job = Job {
+        name: &name[..asked.unwrap_or(0)],
+        out: if named > 0 { Some(&out[..named]) } else { None },
+        in_words: options.in_words,
+    };
+    Status::of(job.plan(rt))
 }
 
 // Does what the arguments from a place on ask, and gives how that ended.
 fn run(rt: HostRuntime, first: usize) -> Status {
     match read_call(rt, first) {
-        Call::Help => show_usage(rt, true),
-        Call::Unclear => show_usage(rt, false),
-        Call::Wrong => Status::Usage,
-        Call::Plan(options) => plan_named(rt, options),
+        Ok(options) => plan_named(rt, options),
+        Err(NoPlan::Help) => show_usage(rt, true),
+        Err(NoPlan::Unclear) => show_usage(rt, false),
+        Err(NoPlan::Wrong) => Status::Usage,
     }
 }
 
 fn main(rt: HostRuntime) {
-    match status::begin(rt, &PROGRAM) {
-        Begun::On(front) => front.end(rt, &PROGRAM, run(rt, front.first)),
-        Begun::Over(front, ended) => front.end(rt, &PROGRAM, ended),
-    }
+    status::run(rt, &PROGRAM, |first| run(rt, first));
 }

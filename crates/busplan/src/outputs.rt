@@ -2,13 +2,12 @@
 // Refusals: none.
 use crate::complaints::PROGRAM;
 use lines::{Block, Sink, Target};
-use schedule::{Frames, Schedule};
+use schedule::{FRAMES, Frames, Schedule};
 use texts::{Closing, put_closing, put_frame, put_slot};
 
 // Writes the lines that wait. They fit the block, so that no write was tried before.
 fn is_flushed(listed: Sink, block: &Block) -> bool {
-    let after = listed.flush_told(block, &PROGRAM);
-    !after.failed
+    listed.flush_told(block, &PROGRAM).failure.is_none()
 }
 
 // Writes the line that says how it ended.
@@ -33,13 +32,10 @@ fn put_slots(
     schedule: Schedule,
     firsts: &Frames,
 ) -> Sink {
-    let messages = schedule.messages;
     let count = schedule.count;
     let mut after = sink;
-    let mut i: usize = 0;
-    while i < 64 && (i as u64) < count {
-        after = put_slot(after, block, in_words, i as u64, messages[i], firsts[i]);
-        i += 1;
+    for (number, (message, first)) in (0..count).zip(schedule.messages.iter().zip(firsts)) {
+        after = put_slot(after, block, in_words, number, *message, *first);
     }
     after
 }
@@ -47,10 +43,8 @@ fn put_slots(
 // Puts a line for each frame.
 fn put_frames(sink: Sink, block: &mut Block, loads: &Frames, capacities: &Frames) -> Sink {
     let mut after = sink;
-    let mut i: usize = 0;
-    while i < 64 {
-        after = put_frame(after, block, i as u64, loads[i], capacities[i]);
-        i += 1;
+    for (frame, (load, capacity)) in loads.iter().zip(capacities).enumerate() {
+        after = put_frame(after, block, frame as u64, *load, *capacity);
     }
     after
 }
@@ -64,7 +58,7 @@ pub(crate) fn write_schedule(
     capacities: &Frames,
 ) -> bool {
     let mut block = io::large_buffer();
-    let mut loads = [0u64; 64];
+    let mut loads = [0u64; FRAMES];
     schedule.loads(firsts, &mut loads);
     let sink = Sink::to(Target::Output(rt.stdout()));
     let listed = put_slots(sink, &mut block, in_words, schedule, firsts);

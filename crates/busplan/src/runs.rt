@@ -5,17 +5,19 @@ use crate::complaints::{PROGRAM, complain_of_line, say_proposed};
 use crate::explanations::{explain_first, explain_frame, explain_none, explain_refusal};
 use crate::files::save;
 use crate::outputs::{write_closing, write_named, write_schedule};
-use crate::readers::{Source, read_plan};
+use crate::readers::read_plan;
 use lines::{complain, is_dash, open_named};
 use plans::Draft;
-use schedule::{Outcome, Proposal};
+use schedule::Rejection;
 use texts::Closing;
 use words::Refusal;
 
-// Says what failed, by the system's number for it, and ends the lines by the name of the file.
-fn fail(rt: HostRuntime, name: &[u8], why: i32) -> bool {
-    complain(&PROGRAM, name, why);
-    end_named(rt, name)
+// What is asked: the name of the plan, that of the new file, if one is asked for, and whether the command words are.
+#[derive(Clone, Copy)]
+pub(crate) struct Job<'a> {
+    pub(crate) name: &'a [u8],
+    pub(crate) out: Option<&'a [u8]>,
+    pub(crate) in_words: bool,
 }
 
 // Ends the lines by the name of a file that failed.
@@ -30,120 +32,130 @@ fn end(rt: HostRuntime, closing: Closing) -> bool {
     false
 }
 
-// Writes all messages and frames.
-fn list(rt: HostRuntime, draft: Draft, in_words: bool) -> bool {
-    let schedule = draft.schedule;
-    let firsts = draft.firsts;
-    let capacities = draft.capacities;
-    write_schedule(rt, in_words, schedule, &firsts, &capacities)
-}
-
-// "more messages, another period or an impossible plan is refused with 15": that line alone.
-fn refuse(rt: HostRuntime, draft: Draft, name: &[u8], refusal: Refusal) -> bool {
-    explain_refusal(draft, name);
-    end(rt, Closing::Refused(refusal))
-}
-
-// Ends the lines of a plan with a first frame that is not below its period: that line alone.
-fn reject_message(rt: HostRuntime, draft: Draft, name: &[u8], message: u64) -> bool {
-    explain_first(draft, name, message);
-    end(rt, Closing::RejectedMessage(message))
-}
-
-// Ends the lines of a plan that overloads a frame, behind all messages and frames.
-fn reject_frame(rt: HostRuntime, draft: Draft, name: &[u8], in_words: bool, frame: u64) -> bool {
-    if !list(rt, draft, in_words) {
-        return false;
+impl<'a> Job<'a> {
+    // Says what failed, by the system's number for it, and ends the lines by the name of the file.
+    fn fail(self, rt: HostRuntime, why: i32) -> bool {
+        complain(&PROGRAM, self.name, why);
+        end_named(rt, self.name)
     }
-    explain_frame(draft, name, frame);
-    end(rt, Closing::RejectedFrame(frame))
-}
 
-// Ends the lines of a plan that holds, behind all messages and frames and once its file is on the disk, where one is asked for.
-fn accept(rt: HostRuntime, draft: Draft, out: &[u8], in_words: bool) -> bool {
-    if !list(rt, draft, in_words) {
-        return false;
+    // Writes all messages and frames.
+    fn list(self, rt: HostRuntime, draft: Draft) -> bool {
+        let schedule = draft.schedule;
+        let firsts = draft.firsts;
+        let capacities = draft.capacities;
+        write_schedule(rt, self.in_words, schedule, &firsts, &capacities)
     }
-    let schedule = draft.schedule;
-    let firsts = draft.firsts;
-    let capacities = draft.capacities;
-    if out.len() > 0 {
-        if !save(rt, out, schedule, &firsts, &capacities) {
-            return end_named(rt, out);
+
+    // "more messages, another period or an impossible plan is refused with 15": that line alone.
+    fn refuse(self, rt: HostRuntime, draft: Draft, refusal: Refusal) -> bool {
+        explain_refusal(draft, self.name);
+        end(rt, Closing::Refused(refusal))
+    }
+
+    // Ends the lines of a plan that overloads a frame, behind all messages and frames.
+    fn reject_frame(self, rt: HostRuntime, draft: Draft, frame: u64) -> bool {
+        if !self.list(rt, draft) {
+            return false;
+        }
+        explain_frame(draft, self.name, frame);
+        end(rt, Closing::RejectedFrame(frame))
+    }
+
+    // Ends the lines of a plan that does not hold. Of a first frame that is not below its period that line stands alone.
+    fn reject(self, rt: HostRuntime, draft: Draft, rejection: Rejection) -> bool {
+        match rejection {
+            Rejection::Refused(refusal) => self.refuse(rt, draft, refusal),
+            Rejection::Message(number) => {
+                explain_first(draft, self.name, number);
+                end(rt, Closing::RejectedMessage(number))
+            }
+            Rejection::Frame(frame) => self.reject_frame(rt, draft, frame),
         }
     }
-    write_closing(rt, Closing::Accepted)
-}
 
-// Writes what the check says of a schedule.
-fn check(rt: HostRuntime, draft: Draft, name: &[u8], out: &[u8], in_words: bool) -> bool {
-    let schedule = draft.schedule;
-    let firsts = draft.firsts;
-    let capacities = draft.capacities;
-    match schedule.check(&firsts, &capacities) {
-        Outcome::Refused(refusal) => refuse(rt, draft, name, refusal),
-        Outcome::RejectedMessage(message) => reject_message(rt, draft, name, message),
-        Outcome::RejectedFrame(frame) => reject_frame(rt, draft, name, in_words, frame),
-        Outcome::Accepted => accept(rt, draft, out, in_words),
-    }
-}
-
-// "The planner's own output goes through the same check."
-fn propose(rt: HostRuntime, draft: Draft, name: &[u8], out: &[u8], in_words: bool) -> bool {
-    let schedule = draft.schedule;
-    let capacities = draft.capacities;
-    let mut firsts = [0u64; 64];
-    match schedule.propose(&capacities, &mut firsts) {
-        Proposal::Found => {
-            say_proposed(name, schedule.count, draft.given);
-            check(rt, draft.with_firsts(firsts), name, out, in_words)
+    // Ends the lines of a plan that holds, behind all messages and frames and once its file is on the disk, where one is asked for.
+    fn accept(self, rt: HostRuntime, draft: Draft) -> bool {
+        if !self.list(rt, draft) {
+            return false;
         }
-        Proposal::None => {
-            explain_none(draft, name);
-            end(rt, Closing::NoSchedule)
+        let schedule = draft.schedule;
+        let firsts = draft.firsts;
+        let capacities = draft.capacities;
+        if let Some(out) = self.out {
+            if !save(rt, out, schedule, &firsts, &capacities) {
+                return end_named(rt, out);
+            }
         }
-        Proposal::Refused(refusal) => refuse(rt, draft, name, refusal),
+        write_closing(rt, Closing::Accepted)
     }
-}
 
-// Checks a plan that has all its first frames, and else proposes all of them.
-fn judge(rt: HostRuntime, draft: Draft, name: &[u8], out: &[u8], in_words: bool) -> bool {
-    if draft.unplaced {
-        return propose(rt, draft, name, out, in_words);
-    }
-    check(rt, draft, name, out, in_words)
-}
-
-// Ends the lines of a plan, whatever stopped its reading.
-fn close(rt: HostRuntime, source: Source, name: &[u8], out: &[u8], in_words: bool) -> bool {
-    if source.failed {
-        return fail(rt, name, source.why);
-    }
-    let draft = source.reading.end();
-    if !draft.is_bad() {
-        return judge(rt, draft, name, out, in_words);
-    }
-    let fault = draft.fault;
-    complain_of_line(name, draft.line, fault);
-    end(rt, Closing::BadLine(draft.line))
-}
-
-// Checks or proposes the schedule of a plan, "-" being standard input; a file of it is made where that has a name. The first line goes out before the
-// plan is opened: where standard output is closed, it would take its number.
-pub(crate) fn plan(rt: HostRuntime, name: &[u8], out: &[u8], in_words: bool) -> bool {
-    if !write_named(rt, b"# busplan ", name) {
-        return false;
-    }
-    if is_dash(name) {
-        let source = read_plan(lines::Source::Input(rt.stdin()));
-        return close(rt, source, name, out, in_words);
-    }
-    match open_named(rt, name) {
-        // the file stays open to the end, so that no other gets its number
-        Ok(file) => {
-            let source = read_plan(lines::Source::Opened(&file));
-            close(rt, source, name, out, in_words)
+    // Writes what the check says of a schedule.
+    fn check(self, rt: HostRuntime, draft: Draft) -> bool {
+        let schedule = draft.schedule;
+        let firsts = draft.firsts;
+        let capacities = draft.capacities;
+        match schedule.check(&firsts, &capacities) {
+            Ok(()) => self.accept(rt, draft),
+            Err(rejection) => self.reject(rt, draft, rejection),
         }
-        Err(why) => fail(rt, name, why),
+    }
+
+    // "The planner's own output goes through the same check."
+    fn propose(self, rt: HostRuntime, draft: Draft) -> bool {
+        let schedule = draft.schedule;
+        let capacities = draft.capacities;
+        match schedule.propose(&capacities) {
+            Ok(Some(firsts)) => {
+                say_proposed(self.name, schedule.count, draft.given);
+                self.check(rt, draft.with_firsts(firsts))
+            }
+            Ok(None) => {
+                explain_none(draft, self.name);
+                end(rt, Closing::NoSchedule)
+            }
+            Err(refusal) => self.refuse(rt, draft, refusal),
+        }
+    }
+
+    // Checks a plan that has all its first frames, and else proposes all of them.
+    fn judge(self, rt: HostRuntime, draft: Draft) -> bool {
+        if draft.unplaced {
+            return self.propose(rt, draft);
+        }
+        self.check(rt, draft)
+    }
+
+    // Ends the lines of a plan, whatever stopped its reading.
+    fn close(self, rt: HostRuntime, read: Result<Draft, i32>) -> bool {
+        match read {
+            Ok(draft) => match draft.bad {
+                None => self.judge(rt, draft),
+                Some(bad) => {
+                    complain_of_line(self.name, bad);
+                    end(rt, Closing::BadLine(bad.line))
+                }
+            },
+            Err(why) => self.fail(rt, why),
+        }
+    }
+
+    // Checks or proposes the schedule of a plan, "-" being standard input; a file of it is made where one is asked for. The first line goes out before the
+    // plan is opened: where standard output is closed, it would take its number.
+    pub(crate) fn plan(self, rt: HostRuntime) -> bool {
+        if !write_named(rt, b"# busplan ", self.name) {
+            return false;
+        }
+        if is_dash(self.name) {
+            return self.close(rt, read_plan(lines::Source::Input(rt.stdin())));
+        }
+        match open_named(rt, self.name) {
+            // the file stays open to the end, so that no other gets its number
+            Ok(file) => {
+                let read = read_plan(lines::Source::Opened(&file));
+                self.close(rt, read)
+            }
+            Err(why) => self.fail(rt, why),
+        }
     }
 }
