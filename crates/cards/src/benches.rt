@@ -1,70 +1,84 @@
-// The bench: what one line leaves to the next, but for the terminal, the tables and the bytes of the buffer, which stand beside it.
+// The bench: what one line leaves to the next. And the calls made on it, which stand in terminals, tables and verdicts.
+use crate::buffers::Buffer;
+use crate::calls::Call;
 use crate::reasons::Reason;
 use crate::replies::Reply;
-use crate::verdicts::plan_of;
+use crate::tables::Table;
+use crate::terminals::first_terminal;
+use crate::usages::write_calls;
+use terminal::Terminal;
 use verdict::Plan;
 use words::Refusal;
 
-// "receive and transmit table of 1,024 zeros"
-pub(crate) const TABLE_WORDS: usize = 1024;
-
-// A table with what a line can lend past its end, and the byte buffer.
-pub(crate) type Table = [u16; 2048];
-
-pub(crate) type Buffer = [u8; 65536];
-
-#[derive(Clone, Copy)]
+#[derive(Drop)]
 pub(crate) struct Bench {
-    // masks for later set-ups, with what a line can lend past those of the subaddresses
-    pub(crate) receive_masks: [u32; 64],
-    pub(crate) transmit_masks: [u32; 64],
-    // words of each table that events lend
-    pub(crate) receive: usize,
-    pub(crate) transmit: usize,
-    // bytes in the buffer
-    pub(crate) buffered: usize,
-    pub(crate) plan: Plan,
-    pub(crate) planned: bool,
+    pub(crate) terminal: Terminal,
+    pub(crate) receive: Table,
+    pub(crate) transmit: Table,
+    pub(crate) buffer: Buffer,
+    pub(crate) plan: Option<Plan>,
 }
 
-// What a call gives that leaves the terminal as it is: the bench after it, and what is to be written.
-#[derive(Clone, Copy)]
-pub(crate) struct Done {
-    pub(crate) bench: Bench,
-    pub(crate) reply: Reply,
+// Why a call has not been made: it was refused, or its line is none. Either leaves all as it was.
+pub(crate) enum Problem {
+    Refused(Refusal),
+    NoCall(Reason),
+}
+
+impl From<Refusal> for Problem {
+    fn from(refusal: Refusal) -> Problem {
+        Problem::Refused(refusal)
+    }
+}
+
+impl From<Reason> for Problem {
+    fn from(reason: Reason) -> Problem {
+        Problem::NoCall(reason)
+    }
 }
 
 impl Bench {
     // "At the start: .. every mask FFFFFFFF ..; both tables lent whole; an empty byte buffer; no plan."
     pub(crate) fn start() -> Bench {
-        let plan = plan_of([0; 7]);
         Bench {
-            receive_masks: [0xFFFF_FFFF; 64],
-            transmit_masks: [0xFFFF_FFFF; 64],
-            receive: TABLE_WORDS,
-            transmit: TABLE_WORDS,
-            buffered: 0,
-            plan,
-            planned: false,
+            terminal: first_terminal(),
+            receive: Table::start(),
+            transmit: Table::start(),
+            buffer: Buffer::empty(),
+            plan: None,
         }
     }
 
-    // The bench as it is, and what is to be written.
-    pub(crate) fn replied(self, reply: Reply) -> Done {
-        Done { bench: self, reply }
-    }
-
-    pub(crate) fn ok(self) -> Done {
-        self.replied(Reply::Ok)
-    }
-
-    // "A line that is no call .. writes `?` and changes nothing"
-    pub(crate) fn no_call(self, reason: Reason) -> Done {
-        self.replied(Reply::NoCall(reason))
-    }
-
-    // A refusal leaves all as it was.
-    pub(crate) fn refused(self, refusal: Refusal) -> Done {
-        self.replied(Reply::Refused(refusal))
+    // Makes a call, and gives what is to be written of it.
+    pub(crate) fn make(&mut self, call: Call) -> Result<Reply, Problem> {
+        match call {
+            Call::Event(event) => self.happen(event),
+            Call::SetUp {
+                address,
+                receive,
+                transmit,
+            } => self.set_up(address, receive, transmit),
+            Call::Host(setting) => Ok(self.set(setting)),
+            Call::Mask {
+                side,
+                subaddress,
+                mask,
+            } => Ok(self.set_mask(side, subaddress, mask)),
+            Call::Tables { receive, transmit } => Ok(self.lend_later(receive, transmit)),
+            Call::Send { place, word } => self.send(place, word),
+            Call::Received { place, count } => self.received(place, count),
+            Call::State => Ok(Reply::State),
+            Call::Spacing => Ok(Reply::Spacing),
+            Call::Plan(plan) => Ok(self.take_plan(plan)),
+            Call::Back(heard) => self.back(heard),
+            Call::Bytes(text) => self.bytes(text),
+            Call::Judge => Ok(Reply::Verdict(self.judge()?.verdict)),
+            Call::Looked => Ok(Reply::Looked(self.judge()?.looked)),
+            Call::File => self.file(),
+            Call::Help => {
+                write_calls();
+                Ok(Reply::Done)
+            }
+        }
     }
 }

@@ -1,204 +1,168 @@
-// The calls: a line is held against the forms of docs/BENCH.md, and is the call of the first that it has.
-use crate::numbers::number_of;
-use crate::parts::{next_start, part_end};
-use lines::{Number, between};
+// The calls of docs/BENCH.md, and which of them a line is.
+use crate::parts::Parts;
+use crate::tables::{LENT_MASKS_MOST, LENT_WORDS_MOST, Side};
+use crate::terminals::MASKS;
+use records::WordRecord;
+use terminal::Event;
+use verdict::Plan;
+use words::Moment;
 
+// the last subaddress that has a mask
+const LAST_SUBADDRESS: usize = 31;
+
+// A call with its parts as what they are.
 #[derive(Clone, Copy)]
-pub(crate) enum Name {
-    Word,
-    Mark,
-    Mask,
-    Setup,
-    SetupLending,
-    Tables,
-    Service,
-    Busy,
-    Subsystem,
-    Fault,
-    Vector,
-    Bit,
-    Selftest,
-    Restart,
-    Send,
-    ReceivedWord,
-    ReceivedWords,
+pub(crate) enum Call<'a> {
+    Event(Event),
+    // so many masks of each table are lent
+    SetUp {
+        address: u16,
+        receive: usize,
+        transmit: usize,
+    },
+    Host(Setting),
+    Mask {
+        side: Side,
+        subaddress: usize,
+        mask: u32,
+    },
+    Tables {
+        receive: usize,
+        transmit: usize,
+    },
+    Send {
+        place: usize,
+        word: u16,
+    },
+    Received {
+        place: usize,
+        count: usize,
+    },
     State,
     Spacing,
-    Plan,
-    Back,
-    Bytes,
+    Plan(Plan),
+    Back(WordRecord),
+    // what the bytes are spelled by, or "none"
+    Bytes(&'a [u8]),
     Judge,
     Looked,
     File,
     Help,
-    // no call
-    None,
 }
 
-impl Name {
-    // Says whether a call is one at the terminal, which leaves the bench as it is.
-    pub(crate) fn is_at_terminal(self) -> bool {
-        match self {
-            Name::Word | Name::Mark | Name::Setup | Name::SetupLending => true,
-            Name::Service | Name::Busy | Name::Subsystem | Name::Fault => true,
-            Name::Vector | Name::Bit | Name::Selftest | Name::Restart => true,
-            _ => false,
-        }
-    }
-}
-
-// A call: its name, and its numbers in the order of the line.
+// What the host does at the terminal.
 #[derive(Clone, Copy)]
-pub(crate) struct Call {
-    pub(crate) name: Name,
-    pub(crate) numbers: [u64; 7],
+pub(crate) enum Setting {
+    Service(bool),
+    Busy(bool),
+    Subsystem(bool),
+    Fault(bool),
+    Vector(u16),
+    Bit(u16),
+    ClearSelftest,
+    Restart,
 }
 
-const NAME_LETTERS: usize = 9;
-
-// How the calls are written: a name, which spaces fill up to nine characters, then a letter for each number. r is r or t, w a word, m a
-// mask, * the rest of the line; the others are decimal: f a flag, s a subaddress, k a number of masks, b below 256, l a number of words that
-// are lent, h below 65,536, t below 2^64.
-const FORMS: [[u8; 16]; 26] = [
-    *b"word     tbbbwb ",
-    *b"mark     t      ",
-    *b"mask     rsm    ",
-    *b"setup    h      ",
-    *b"setup    hkk    ",
-    *b"tables   ll     ",
-    *b"service  f      ",
-    *b"busy     f      ",
-    *b"subsystemf      ",
-    *b"fault    f      ",
-    *b"vector   w      ",
-    *b"bit      w      ",
-    *b"selftest        ",
-    *b"restart         ",
-    *b"send     tw     ",
-    *b"received t      ",
-    *b"received tt     ",
-    *b"state           ",
-    *b"spacing         ",
-    *b"plan     bwwbtt ",
-    *b"back     tbbbwb ",
-    *b"bytes    *      ",
-    *b"judge           ",
-    *b"looked          ",
-    *b"file            ",
-    *b"help            ",
-];
-
-// The names of these, in the same order.
-const NAMES: [Name; 26] = [
-    Name::Word,
-    Name::Mark,
-    Name::Mask,
-    Name::Setup,
-    Name::SetupLending,
-    Name::Tables,
-    Name::Service,
-    Name::Busy,
-    Name::Subsystem,
-    Name::Fault,
-    Name::Vector,
-    Name::Bit,
-    Name::Selftest,
-    Name::Restart,
-    Name::Send,
-    Name::ReceivedWord,
-    Name::ReceivedWords,
-    Name::State,
-    Name::Spacing,
-    Name::Plan,
-    Name::Back,
-    Name::Bytes,
-    Name::Judge,
-    Name::Looked,
-    Name::File,
-    Name::Help,
-];
-
-// Gives the name of the form of that number.
-fn name_at(number: usize) -> Name {
-    if number < 26 {
-        return NAMES[number];
-    }
-    Name::None
-}
-
-// Says whether a text is the name of a form.
-pub(crate) fn is_named(text: &[u8], form: [u8; 16]) -> bool {
-    if text.len() > NAME_LETTERS {
-        return false;
-    }
-    let mut i = 0;
-    while i < NAME_LETTERS {
-        let letter = if i < text.len() { text[i] } else { b' ' };
-        if letter != form[i] {
-            return false;
+impl Parts<'_> {
+    // A, or A R T: a set-up that names no masks lends all
+    fn take_set_up(&mut self) -> Option<Call<'static>> {
+        let address = self.take_address()?;
+        if self.is_empty() {
+            return Some(Call::SetUp {
+                address,
+                receive: MASKS,
+                transmit: MASKS,
+            });
         }
-        i += 1;
+        Some(Call::SetUp {
+            address,
+            receive: self.take_at_most(LENT_MASKS_MOST)?,
+            transmit: self.take_at_most(LENT_MASKS_MOST)?,
+        })
     }
-    true
-}
 
-// The numbers of a line, and whether it has those that a form asks for and no more.
-#[derive(Clone, Copy)]
-struct Numbers {
-    good: bool,
-    values: [u64; 7],
-}
-
-// Gives the numbers that stand after the name, which ends at a place.
-fn numbers_of(line: &[u8], name_end: usize, form: [u8; 16]) -> Numbers {
-    let mut good = true;
-    let mut values = [0; 7];
-    let mut end = name_end;
-    let mut i = 0;
-    while i < 7 {
-        let letter = form[NAME_LETTERS + i];
-        let start = next_start(line, end);
-        end = part_end(line, start, letter);
-        match number_of(between(line, start, end), letter) {
-            Number::Is(value) => {
-                values[i] = value;
-            }
-            Number::None => {
-                good = false;
-            }
-        }
-        i += 1;
+    // I, or I N: one that names no number of words asks for one
+    fn take_received(&mut self) -> Option<Call<'static>> {
+        let place = self.take_size()?;
+        let count = if self.is_empty() {
+            1
+        } else {
+            self.take_size()?
+        };
+        Some(Call::Received { place, count })
     }
-    Numbers { good, values }
-}
 
-// Gives the call that a line is by the first of the forms that it has.
-fn call_among(line: &[u8], forms: &[[u8; 16]]) -> Call {
-    let name_end = part_end(line, 0, b' ');
-    let name = between(line, 0, name_end);
-    let mut i = 0;
-    while i < forms.len() {
-        let form = forms[i];
-        if is_named(name, form) {
-            let read = numbers_of(line, name_end, form);
-            if read.good {
-                let numbers = read.values;
-                return Call {
-                    name: name_at(i),
-                    numbers,
-                };
-            }
-        }
-        i += 1;
+    // r S MASK, or t S MASK
+    fn take_mask_call(&mut self) -> Option<Call<'static>> {
+        Some(Call::Mask {
+            side: self.take_side()?,
+            subaddress: self.take_at_most(LAST_SUBADDRESS)?,
+            mask: self.take_mask()?,
+        })
     }
-    Call {
-        name: Name::None,
-        numbers: [0; 7],
+
+    // R T
+    fn take_tables(&mut self) -> Option<Call<'static>> {
+        Some(Call::Tables {
+            receive: self.take_at_most(LENT_WORDS_MOST)?,
+            transmit: self.take_at_most(LENT_WORDS_MOST)?,
+        })
+    }
+
+    // I WORD
+    fn take_send(&mut self) -> Option<Call<'static>> {
+        Some(Call::Send {
+            place: self.take_size()?,
+            word: self.take_word()?,
+        })
     }
 }
 
-// Gives the call that a line is.
-pub(crate) fn call_of(line: &[u8]) -> Call {
-    let forms = FORMS;
-    call_among(line, &forms)
+// Gives what the host does by a call of that name, with the parts that it wants.
+fn setting_named(name: &[u8], parts: &mut Parts) -> Option<Setting> {
+    match name {
+        b"service" => Some(Setting::Service(parts.take_flag()?)),
+        b"busy" => Some(Setting::Busy(parts.take_flag()?)),
+        b"subsystem" => Some(Setting::Subsystem(parts.take_flag()?)),
+        b"fault" => Some(Setting::Fault(parts.take_flag()?)),
+        b"vector" => Some(Setting::Vector(parts.take_word()?)),
+        b"bit" => Some(Setting::Bit(parts.take_word()?)),
+        b"selftest" => Some(Setting::ClearSelftest),
+        b"restart" => Some(Setting::Restart),
+        _ => None,
+    }
+}
+
+// Gives the call of a name, with the parts that it wants; any but bytes.
+fn call_named(name: &[u8], parts: &mut Parts) -> Option<Call<'static>> {
+    match name {
+        b"word" => Some(Call::Event(Event::Word(parts.take_record()?))),
+        b"mark" => Some(Call::Event(Event::Mark(Moment(parts.take_number()?)))),
+        b"setup" => parts.take_set_up(),
+        b"mask" => parts.take_mask_call(),
+        b"tables" => parts.take_tables(),
+        b"send" => parts.take_send(),
+        b"received" => parts.take_received(),
+        b"state" => Some(Call::State),
+        b"spacing" => Some(Call::Spacing),
+        b"plan" => Some(Call::Plan(parts.take_plan()?)),
+        b"back" => Some(Call::Back(parts.take_record()?)),
+        b"judge" => Some(Call::Judge),
+        b"looked" => Some(Call::Looked),
+        b"file" => Some(Call::File),
+        b"help" => Some(Call::Help),
+        _ => Some(Call::Host(setting_named(name, parts)?)),
+    }
+}
+
+// Gives the call that a line is: its name, the parts that it wants, and nothing behind them.
+pub(crate) fn call_of(line: &[u8]) -> Option<Call<'_>> {
+    let mut parts = Parts::of(line);
+    let name = parts.take()?;
+    // the one call that holds a part of the line stands here, since a match can't join it with those that hold none
+    let call = match name {
+        b"bytes" => Call::Bytes(parts.take_rest()?),
+        _ => call_named(name, &mut parts)?,
+    };
+    parts.is_empty().then_some(call)
 }

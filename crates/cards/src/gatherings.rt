@@ -1,76 +1,85 @@
 // A line as it comes in, byte by byte: runs of spaces are made one, and those in front and at the end are dropped.
-use std::num::wrapping_add_u64;
 
-// What is known of the line so far.
-#[derive(Clone, Copy)]
-pub(crate) struct Gathering {
-    // its number, counted from 1
-    pub(crate) number: u64,
-    // how many bytes of it were kept
-    pub(crate) length: usize,
-    // a space stands before the next byte
-    spaced: bool,
-    // a byte came: the line is not empty
-    begun: bool,
+// What a line is by its first byte.
+#[derive(Clone, Copy, PartialEq, Eq)]
+enum Kind {
+    Empty,
     // it begins with #
-    remark: bool,
+    Remark,
+    Call,
 }
 
-impl Gathering {
-    // Gives a line of that number before its first byte.
-    pub(crate) fn start(number: u64) -> Gathering {
-        Gathering {
-            number,
+// the longest line that is kept
+const LINE_BYTES: usize = 262144;
+
+// The line so far. One that fills it is longer than any call.
+#[derive(Drop)]
+pub(crate) struct Line {
+    bytes: [u8; LINE_BYTES],
+    // how many bytes were kept
+    length: usize,
+    // its number, counted from 1
+    pub(crate) number: u64,
+    kind: Kind,
+    // a space stands before the next byte
+    spaced: bool,
+}
+
+impl Line {
+    // Gives the first line before its first byte.
+    pub(crate) fn first() -> Line {
+        Line {
+            bytes: [0; LINE_BYTES],
             length: 0,
+            number: 1,
+            kind: Kind::Empty,
             spaced: false,
-            begun: false,
-            remark: false,
         }
     }
 
-    // Gives the next line before its first byte.
-    pub(crate) fn next(self) -> Gathering {
-        Gathering::start(wrapping_add_u64(self.number, 1))
+    // Makes it the next line before its first byte.
+    pub(crate) fn start_next(&mut self) {
+        self.length = 0;
+        self.number = self.number.wrapping_add(1);
+        self.kind = Kind::Empty;
+        self.spaced = false;
     }
 
     // "A line that is empty or begins with `#` writes nothing."
-    pub(crate) fn is_silent(self) -> bool {
-        !self.begun | self.remark
+    pub(crate) fn is_silent(&self) -> bool {
+        self.kind != Kind::Call
     }
 
-    // Keeps a byte at the end, where there is room: a line that fills it is longer than any call.
-    fn kept(mut self, line: &mut [u8], byte: u8) -> Gathering {
-        let length = self.length;
-        if length < line.len() {
-            line[length] = byte;
-            self.length = length + 1;
-        }
-        self
+    // The bytes that were kept.
+    pub(crate) fn text(&self) -> &[u8] {
+        &self.bytes[..self.length.min(LINE_BYTES)]
     }
 
-    // Keeps the space that stands before the next byte, but not in front.
-    fn after_space(self, line: &mut [u8]) -> Gathering {
-        if self.length == 0 {
-            return self;
+    // Keeps a byte at the end, where there is room.
+    fn keep(&mut self, byte: u8) {
+        if self.length < LINE_BYTES {
+            self.bytes[self.length] = byte;
+            self.length += 1;
         }
-        if self.spaced {
-            return self.kept(line, b' ');
-        }
-        self
     }
 
-    // Takes one byte of the line.
-    pub(crate) fn take(mut self, line: &mut [u8], byte: u8) -> Gathering {
-        if !self.begun {
-            self.begun = true;
-            self.remark = byte == b'#';
+    // Takes one byte of the line. A space waits for the byte behind it, and is not kept in front.
+    pub(crate) fn take(&mut self, byte: u8) {
+        if self.kind == Kind::Empty {
+            self.kind = if byte == b'#' {
+                Kind::Remark
+            } else {
+                Kind::Call
+            };
         }
         if byte == b' ' {
             self.spaced = true;
-            return self;
+            return;
         }
-        let mut kept = self.after_space(line).kept(line, byte);
-        kept.spaced = false;
-        kept
+        if self.spaced & (self.length > 0) {
+            self.keep(b' ');
+        }
+        self.keep(byte);
+        self.spaced = false;
     }
 }

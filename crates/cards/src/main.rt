@@ -4,115 +4,61 @@
 #![tactic(auto)]
 
 mod benches;
+mod buffers;
 mod calls;
 mod complaints;
-mod events;
-mod fillings;
 mod gatherings;
-mod numbers;
 mod outputs;
 mod parts;
 mod reasons;
 mod replies;
 mod scripts;
-mod setups;
+mod tables;
 mod terminals;
 mod usages;
 mod verdicts;
 
-use benches::{Buffer, Table};
+use benches::Bench;
 use complaints::{PROGRAM, show_usage};
-use lines::{Block, Source, complain};
-use scripts::{Line, Run, run_block};
-use status::{Begun, Status, asks_help, count_arguments};
+use lines::{Source, complain};
+use scripts::{Failed, Script};
+use status::{Status, asks_help, count_arguments};
 
-// Says on standard error that a read failed, by the system's number for it.
-fn tell_unread(why: i32) {
-    complain(&PROGRAM, b"standard input", why);
-}
-
-// Reads one block and runs its lines. Keeping the loop out of it keeps what the buffer holds out of the loop's invariant.
-fn read_block(
-    rt: HostRuntime,
-    run: Run,
-    line: &mut Line,
-    receive: &mut Table,
-    transmit: &mut Table,
-    buffer: &mut Buffer,
-    out: &mut Block,
-) -> Run {
+// Reads one block and runs its lines. Says whether there may be more.
+fn read_block(rt: HostRuntime, script: &mut Script, bench: &mut Bench) -> Result<bool, Failed> {
     let mut block = io::large_buffer();
-    let count = match Source::Input(rt.stdin()).read(&mut block) {
-        Ok(count) => count,
-        Err(why) => {
-            tell_unread(why);
-            return run.read(true);
+    match Source::Input(rt.stdin()).read(&mut block) {
+        Ok(0) => Ok(false),
+        Ok(count) => {
+            script.run_block(&block[..count], bench)?;
+            Ok(true)
         }
-    };
-    if count == 0 {
-        return run.read(false);
+        Err(why) => {
+            complain(&PROGRAM, b"standard input", why);
+            Err(Failed)
+        }
     }
-    run_block(run, &block[..count], line, receive, transmit, buffer, out)
 }
 
-// Reads to the end. A proved loop has to end, and nothing says that the input does: it counts down from a number that no run uses up.
-fn read_all(
-    rt: HostRuntime,
-    line: &mut Line,
-    receive: &mut Table,
-    transmit: &mut Table,
-    buffer: &mut Buffer,
-    out: &mut Block,
-) -> Run {
-    let mut run = Run::start(rt);
-    let mut turns = u64::MAX;
-    while turns > 0 && run.more {
-        run = read_block(rt, run, line, receive, transmit, buffer, out);
-        turns -= 1;
+// Plays the script to its end. A proved loop has to end, and nothing says that the input does: it has more turns than any run uses up. A
+// line that a failure cut is none.
+fn play_all(rt: HostRuntime, script: &mut Script, bench: &mut Bench) -> Result<Status, Failed> {
+    for _ in 0..u64::MAX {
+        if !read_block(rt, script, bench)? {
+            break;
+        }
     }
-    run
+    script.end(bench)
 }
 
-// Runs the last line, which may have no end, and writes what waits. A line that a failure cut is none.
-fn finish(
-    run: Run,
-    line: &Line,
-    receive: &mut Table,
-    transmit: &mut Table,
-    buffer: &mut Buffer,
-    out: &mut Block,
-) -> Status {
-    if run.failed {
-        return Status::Failed;
-    }
-    let last = run.run_line(run.gathering, line, receive, transmit, buffer, out);
-    let after = last.written(out);
-    Status::of(!after.missed & !after.failed)
-}
-
-// Plays the script. "At the start: .. receive and transmit table of 1,024 zeros". What a line can lend past these is only a length.
+// Plays the script on a fresh bench.
 fn play(rt: HostRuntime) -> Status {
-    let mut line = [0u8; 262144];
-    let mut receive = [0u16; 2048];
-    let mut transmit = [0u16; 2048];
-    let mut buffer = io::large_buffer();
-    let mut out = io::large_buffer();
-    let run = read_all(
-        rt,
-        &mut line,
-        &mut receive,
-        &mut transmit,
-        &mut buffer,
-        &mut out,
-    );
-    finish(
-        run,
-        &line,
-        &mut receive,
-        &mut transmit,
-        &mut buffer,
-        &mut out,
-    )
+    let mut script = Script::start(rt);
+    let mut bench = Bench::start();
+    match play_all(rt, &mut script, &mut bench) {
+        Ok(status) => status,
+        Err(Failed) => Status::Failed,
+    }
 }
 
 // Does what the arguments from a place on ask, and gives how that ended.
@@ -124,8 +70,5 @@ fn act(rt: HostRuntime, first: usize) -> Status {
 }
 
 fn main(rt: HostRuntime) {
-    match status::begin(rt, &PROGRAM) {
-        Begun::On(front) => front.end(rt, &PROGRAM, act(rt, front.first)),
-        Begun::Over(front, how) => front.end(rt, &PROGRAM, how),
-    }
+    status::run(rt, &PROGRAM, |first| act(rt, first));
 }

@@ -1,38 +1,39 @@
-// The lines of docs/BENCH.md as it writes them, with a capital for each value.
-use lines::{Block, Sink};
+// Where lines go: a sink and the block in which its bytes wait. What is put never fails here; the sink keeps that a write has failed.
+use lines::{Block, Sink, Target};
+use std::fmt;
 
-// Puts what a capital of a line stands for: W is a word, any other a decimal number.
-fn put_value(sink: Sink, out: &mut Block, capital: u8, value: u64) -> Sink {
-    if capital == b'W' {
-        return sink.put_word(out, (value % 65536) as u16);
-    }
-    sink.put_decimal(out, value)
+#[derive(Drop)]
+pub(crate) struct Output {
+    sink: Sink,
+    block: Block,
 }
 
-// Puts a line as docs/BENCH.md writes it, each capital for the next of the values.
-pub(crate) fn put_line(sink: Sink, out: &mut Block, line: &[u8], values: [u64; 8]) -> Sink {
-    let mut after = sink;
-    let mut used = 0;
-    let mut i = 0;
-    while i < line.len() {
-        let byte = line[i];
-        match byte {
-            b'A'..=b'Z' => {
-                if used < 8 {
-                    after = put_value(after, out, byte, values[used]);
-                    used += 1;
-                }
-            }
-            _ => {
-                after = after.put(out, byte);
-            }
+impl Output {
+    pub(crate) fn to(target: Target) -> Output {
+        Output {
+            sink: Sink::to(target),
+            block: io::large_buffer(),
         }
-        i += 1;
     }
-    after
+
+    // Puts a name as it was given, with control bytes as `?`.
+    pub(crate) fn put_name(&mut self, name: &[u8]) {
+        self.sink = self.sink.put_name(&mut self.block, name);
+    }
+
+    // Writes what waits. Gives the system's number for why a write has failed, this one or one before it.
+    pub(crate) fn flush(&mut self) -> Result<(), i32> {
+        self.sink = self.sink.flush(&self.block);
+        match self.sink.failure {
+            Some(why) => Err(why),
+            None => Ok(()),
+        }
+    }
 }
 
-// Puts a line with one capital.
-pub(crate) fn put_one(sink: Sink, out: &mut Block, line: &[u8], value: u64) -> Sink {
-    put_line(sink, out, line, [value, 0, 0, 0, 0, 0, 0, 0])
+impl fmt::Write for Output {
+    fn write_str(&mut self, text: &str) -> fmt::Result {
+        self.sink = self.sink.put_text(&mut self.block, text.as_bytes());
+        Ok(())
+    }
 }

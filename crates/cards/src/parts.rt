@@ -1,45 +1,117 @@
-// The parts of a line: "Words on a line are separated by spaces", here by one each, since a line is gathered so.
-use crate::numbers::REST;
-use lines::between;
+// The parts of a line, one after the other: "Words on a line are separated by spaces", here by one each, since a line is gathered so. And
+// what they spell: "Numbers are decimal, but for 16-bit words (4 hexadecimal digits), masks (8) and bytes (2 each)". A part that is missing,
+// is no number or does not fit is None.
+use crate::tables::Side;
+use lines::{read_decimal, read_hexadecimal};
+use records::WordRecord;
+use verdict::Plan;
+use words::{CommandWord, Moment};
 
-// Gives where the part begins that follows one that ends at a place; where none does, it is past the line.
-pub(crate) fn next_start(line: &[u8], end: usize) -> usize {
-    if end < line.len() {
-        end + 1
-    } else {
-        line.len()
-    }
+// What is left of a line.
+#[derive(Drop)]
+pub(crate) struct Parts<'a> {
+    rest: &'a [u8],
 }
 
-// Gives where a part ends that begins at a start: at the next space, or where its letter is that of the rest, with the line.
-pub(crate) fn part_end(line: &[u8], start: usize, letter: u8) -> usize {
-    if letter == REST {
-        return line.len();
+impl<'a> Parts<'a> {
+    pub(crate) fn of(line: &'a [u8]) -> Parts<'a> {
+        Parts { rest: line }
     }
-    lines::part_end(line, start)
-}
 
-// Gives the last so many bytes of a line, none where it has fewer.
-pub(crate) fn last(line: &[u8], count: usize) -> &[u8] {
-    if count <= line.len() {
-        return &line[line.len() - count..];
-    }
-    &line[..0]
-}
-
-// Gives how many bytes of a text there are before the spaces at its end.
-fn filled(text: &[u8]) -> usize {
-    let mut end = text.len();
-    while end > 0 {
-        if text[end - 1] != b' ' {
-            return end;
+    // Gives all that is left, where anything is.
+    pub(crate) fn take_rest(&mut self) -> Option<&'a [u8]> {
+        let rest = self.rest;
+        if rest.is_empty() {
+            return None;
         }
-        end -= 1;
+        self.rest = b"";
+        Some(rest)
     }
-    0
-}
 
-// Gives a text without the spaces at its end.
-pub(crate) fn trimmed(text: &[u8]) -> &[u8] {
-    between(text, 0, filled(text))
+    // Gives the next part, and leaves what is behind the space at its end.
+    pub(crate) fn take(&mut self) -> Option<&'a [u8]> {
+        let rest = self.take_rest()?;
+        match rest.iter().position(|byte| *byte == b' ') {
+            Some(end) => {
+                self.rest = &rest[end + 1..];
+                Some(&rest[..end])
+            }
+            None => Some(rest),
+        }
+    }
+
+    // Says whether no part is left.
+    pub(crate) fn is_empty(&self) -> bool {
+        self.rest.is_empty()
+    }
+
+    pub(crate) fn take_number(&mut self) -> Option<u64> {
+        read_decimal(self.take()?)
+    }
+
+    // Gives a number that counts something, or a place.
+    pub(crate) fn take_size(&mut self) -> Option<usize> {
+        usize::try_from(self.take_number()?).ok()
+    }
+
+    pub(crate) fn take_at_most(&mut self, most: usize) -> Option<usize> {
+        self.take_size().filter(|size| *size <= most)
+    }
+
+    pub(crate) fn take_byte(&mut self) -> Option<u8> {
+        u8::try_from(self.take_number()?).ok()
+    }
+
+    // Gives an address to set up with, one out of range too.
+    pub(crate) fn take_address(&mut self) -> Option<u16> {
+        u16::try_from(self.take_number()?).ok()
+    }
+
+    pub(crate) fn take_flag(&mut self) -> Option<bool> {
+        match self.take_number()? {
+            0 => Some(false),
+            1 => Some(true),
+            _ => None,
+        }
+    }
+
+    pub(crate) fn take_word(&mut self) -> Option<u16> {
+        u16::try_from(read_hexadecimal(self.take()?, 4)?).ok()
+    }
+
+    pub(crate) fn take_mask(&mut self) -> Option<u32> {
+        u32::try_from(read_hexadecimal(self.take()?, 8)?).ok()
+    }
+
+    pub(crate) fn take_side(&mut self) -> Option<Side> {
+        match self.take()? {
+            b"r" => Some(Side::Receive),
+            b"t" => Some(Side::Transmit),
+            _ => None,
+        }
+    }
+
+    // TIME BUS SYNC FAULTS WORD PARITY. What is out of range is for the call to refuse.
+    pub(crate) fn take_record(&mut self) -> Option<WordRecord> {
+        Some(WordRecord {
+            time: Moment(self.take_number()?),
+            bus: self.take_byte()?,
+            sync: self.take_byte()?,
+            faults: self.take_byte()?,
+            word: self.take_word()?,
+            parity: self.take_byte()?,
+        })
+    }
+
+    // N C1 C2 BUS E Q
+    pub(crate) fn take_plan(&mut self) -> Option<Plan> {
+        Some(Plan {
+            commands: self.take_byte()?,
+            first: CommandWord(self.take_word()?),
+            second: CommandWord(self.take_word()?),
+            bus: self.take_byte()?,
+            last: Moment(self.take_number()?),
+            until: Moment(self.take_number()?),
+        })
+    }
 }

@@ -1,8 +1,10 @@
 // Why a line is no call, and what is said of it on standard error (docs/BENCH.md, "A line that is no call"). That goes out before the
 // line's `?`, so that who waits for the `?` finds it there. Refusals: none.
-use crate::complaints::PROGRAM;
+use crate::outputs::Output;
+use crate::parts::Parts;
 use crate::usages::put_wanted;
-use lines::{Block, Sink, Target, between, part_end};
+use lines::Target;
+use std::fmt::{self, Write};
 
 #[derive(Clone, Copy)]
 pub(crate) enum Reason {
@@ -24,59 +26,49 @@ const CALL_BYTES: usize = 196613;
 // how much is shown of a name that is none
 const SHOWN_BYTES: usize = 40;
 
-// Gives the beginning of a text, as far as it is shown.
-fn shown(text: &[u8]) -> &[u8] {
-    if text.len() > SHOWN_BYTES {
-        return between(text, 0, SHOWN_BYTES);
-    }
-    text
-}
-
 // Puts what is wrong with a line that has no form of a call.
-fn put_formless(sink: Sink, block: &mut Block, line: &[u8]) -> Sink {
-    let name = between(line, 0, part_end(line, 0));
-    if name.len() == 0 {
-        return sink.put_text(block, b"it has nothing but spaces");
+fn put_formless(out: &mut Output, line: &[u8]) -> fmt::Result {
+    let Some(name) = Parts::of(line).take() else {
+        return write!(out, "it has nothing but spaces");
+    };
+    if put_wanted(out, name)? {
+        return Ok(());
     }
-    let wanted = put_wanted(sink, block, name);
-    let after = wanted.sink;
-    if wanted.known {
-        return after;
-    }
-    after
-        .put_text(block, b"no call is named ")
-        .put_name(block, shown(name))
-        .put_text(block, b"; help prints them")
+    write!(out, "no call is named ")?;
+    out.put_name(&name[..name.len().min(SHOWN_BYTES)]);
+    write!(out, "; help prints them")
 }
 
 // Puts why a line is no call.
-fn put_reason(sink: Sink, block: &mut Block, reason: Reason, line: &[u8]) -> Sink {
+fn put_reason(out: &mut Output, reason: Reason, line: &[u8]) -> fmt::Result {
     if line.len() > CALL_BYTES {
-        return sink.put_text(block, b"it is longer than any call");
+        return write!(out, "it is longer than any call");
     }
     match reason {
-        Reason::Form => put_formless(sink, block, line),
-        Reason::Past => sink.put_text(
-            block,
-            b"it reaches past the end of the table, which has 1024 words",
+        Reason::Form => put_formless(out, line),
+        Reason::Past => write!(
+            out,
+            "it reaches past the end of the table, which has 1024 words"
         ),
-        Reason::NoPlan => sink.put_text(block, b"there is no plan yet"),
-        Reason::NoRoom => sink.put_text(block, b"the buffer has no room for a record"),
-        Reason::NoBytes => sink.put_text(
-            block,
-            b"its bytes are no pairs of hexadecimal digits, or the buffer has no room for them",
+        Reason::NoPlan => write!(out, "there is no plan yet"),
+        Reason::NoRoom => write!(out, "the buffer has no room for a record"),
+        Reason::NoBytes => write!(
+            out,
+            "its bytes are no pairs of hexadecimal digits, or the buffer has no room for them"
         ),
     }
 }
 
-// Says why the line of a number is no call: "cards: line 4: mark wants TIME".
+// Puts the whole sentence: "cards: line 4: mark wants TIME".
+fn put_sentence(out: &mut Output, reason: Reason, number: u64, line: &[u8]) -> fmt::Result {
+    write!(out, "cards: line {number}: ")?;
+    put_reason(out, reason, line)?;
+    writeln!(out)
+}
+
+// Says why the line of a number is no call.
 pub(crate) fn say(reason: Reason, number: u64, line: &[u8]) {
-    let mut block = io::large_buffer();
-    let begun = Sink::to(Target::Errors)
-        .put_text(&mut block, &PROGRAM)
-        .put_number(&mut block, b": line ", number)
-        .put_text(&mut block, b": ");
-    put_reason(begun, &mut block, reason, line)
-        .put(&mut block, b'\n')
-        .flush(&block);
+    let mut out = Output::to(Target::Errors);
+    let _ = put_sentence(&mut out, reason, number, line);
+    let _ = out.flush();
 }

@@ -1,9 +1,0 @@
--- `call_among` is safe and ends: the measure is what is left of the forms. Assumes nothing.
-use Rattle.std.proofs.Common.{◌-◌, length}
-use Rattle.cards.proofs.calls.call_among.Given as goal
-
-abbrev pub invariant-loop-i : goal.invariant-loop-i
-invariant-loop-i l = Unit {0}
-
-abbrev pub decreases-loop-i : goal.decreases-loop-i
-decreases-loop-i l = length l.forms - l.i

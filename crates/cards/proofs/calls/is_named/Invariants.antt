@@ -1,9 +1,0 @@
--- `is_named` is safe and ends: the measure is what is left of the nine letters. Assumes nothing.
-use Rattle.std.proofs.Common.{◌-◌}
-use Rattle.cards.proofs.calls.is_named.Given as goal
-
-abbrev pub invariant-loop-i : goal.invariant-loop-i
-invariant-loop-i l = Unit {0}
-
-abbrev pub decreases-loop-i : goal.decreases-loop-i
-decreases-loop-i l = 9 - l.i

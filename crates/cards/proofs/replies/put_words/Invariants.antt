@@ -1,9 +1,0 @@
--- `put_words` is safe and ends: the measure is what is left of the words. Assumes nothing.
-use Rattle.std.proofs.Common.{◌-◌, length}
-use Rattle.cards.proofs.replies.put_words.Given as goal
-
-abbrev pub invariant-loop-i : goal.invariant-loop-i
-invariant-loop-i l = Unit {0}
-
-abbrev pub decreases-loop-i : goal.decreases-loop-i
-decreases-loop-i l = length l.words - l.i
