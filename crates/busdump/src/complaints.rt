@@ -1,6 +1,7 @@
 // The program's name, with which all begins that it says on standard error; what is wrong with an argument or with a file; the usage. Refusals: none.
 use lines::{Block, Sink, Target, begin_complaint, between};
 use status::{Status, typed_number};
+use words::Refusal;
 
 pub(crate) const PROGRAM: [u8; 7] = *b"busdump";
 
@@ -39,41 +40,38 @@ pub(crate) fn refuse(rt: HostRuntime, place: usize, what: &[u8], why: &[u8], sho
 }
 
 // Ends what is said of a refusal: " (refusal N)".
-fn end_refusal(said: Sink, block: &mut Block, number: u8) {
-    said.put_number(block, b" (refusal ", number as u64)
+fn end_refusal(said: Sink, block: &mut Block, refusal: Refusal) {
+    said.put_number(block, b" (refusal ", u64::from(refusal.number()))
         .put_text(block, b")\n")
         .flush(block);
 }
 
-// Puts why a record is refused with a number (01 Numbers for a refused call).
-fn put_reason(sink: Sink, block: &mut Block, number: u8) -> Sink {
-    match number {
-        3 => sink.put_text(block, b"fewer than 16 bytes are left for a record"),
-        4 => sink.put_text(block, b"its length is not 14"),
-        5 => sink.put_text(block, b"a field or its time is out of range"),
-        6 => sink.put_text(block, b"it is earlier than the record before it"),
-        _ => sink.put_text(block, b"it is refused"),
+// Gives why a record is refused (01 Numbers for a refused call).
+fn reason_of(refusal: Refusal) -> &'static [u8] {
+    match refusal {
+        Refusal::ShortRecord => b"fewer than 16 bytes are left for a record",
+        Refusal::RecordLength => b"its length is not 14",
+        Refusal::OutOfRange => b"a field or its time is out of range",
+        Refusal::OutOfOrder => b"it is earlier than the record before it",
+        _ => b"it is refused",
     }
 }
 
 // Says why the reading of a file stopped at a record: "busdump: NAME: record 11 at byte 177: fewer than 16 bytes are left for a record (refusal 3)".
-pub(crate) fn explain_record(name: &[u8], number: u8, record: u64, byte: u64) {
+pub(crate) fn explain_record(name: &[u8], refusal: Refusal, record: u64, byte: u64) {
     let mut block = io::large_buffer();
     begin_complaint(&PROGRAM, name);
-    let placed = Sink::to(Target::Errors)
+    let said = Sink::to(Target::Errors)
         .put_number(&mut block, b": record ", record)
         .put_number(&mut block, b" at byte ", byte)
-        .put_text(&mut block, b": ");
-    let said = put_reason(placed, &mut block, number);
-    end_refusal(said, &mut block, number);
+        .put_text(&mut block, b": ")
+        .put_text(&mut block, reason_of(refusal));
+    end_refusal(said, &mut block, refusal);
 }
 
 // Says whether bytes begin as a record does, by its length.
 fn begins_record(bytes: &[u8]) -> bool {
-    if bytes.len() < 2 {
-        return false;
-    }
-    (bytes[0] == 0) & (bytes[1] == 14)
+    bytes.starts_with(&[0, 14])
 }
 
 // Says whether the first byte is a version: a record begins behind it, or nothing does.
@@ -81,26 +79,21 @@ fn is_versioned(start: &[u8]) -> bool {
     (start.len() == 1) | begins_record(between(start, 1, start.len()))
 }
 
-// Gives a byte as a number to put.
-fn wide(byte: u8) -> u64 {
-    byte as u64
-}
-
 // Puts what a file is that begins with no version that is read: empty, a record file without its version or of another, or none at all.
 fn put_beginning(sink: Sink, block: &mut Block, start: &[u8]) -> Sink {
-    if start.len() == 0 {
+    let Some(&first) = start.first() else {
         return sink.put_text(
             block,
             b": it is empty, and a record file has a version byte",
         );
-    }
+    };
+    let first = u64::from(first);
     if begins_record(start) {
         return sink.put_text(
             block,
             b": its version byte is missing, and a record begins in its place",
         );
     }
-    let first = wide(start[0]);
     if is_versioned(start) {
         return sink
             .put_number(block, b": its version is ", first)
@@ -111,9 +104,9 @@ fn put_beginning(sink: Sink, block: &mut Block, start: &[u8]) -> Sink {
 }
 
 // Says why a file that begins so was refused as a whole.
-pub(crate) fn explain_beginning(name: &[u8], number: u8, start: &[u8]) {
+pub(crate) fn explain_beginning(name: &[u8], refusal: Refusal, start: &[u8]) {
     let mut block = io::large_buffer();
     begin_complaint(&PROGRAM, name);
     let said = put_beginning(Sink::to(Target::Errors), &mut block, start);
-    end_refusal(said, &mut block, number);
+    end_refusal(said, &mut block, refusal);
 }

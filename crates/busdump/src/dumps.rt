@@ -1,36 +1,22 @@
 // The log of a file: two readings of it, one for each bus, give its entries in order (02 a). It "groups the words of each bus, apart from the
 // other bus", so that a fixed room is enough, however long the file is and however long an entry stands open. Refusals: none.
-use crate::options::Options;
 use crate::readers::Reader;
 use crate::tallies::Tally;
-use lines::Block;
-use monitor::{Choice, choose};
-use std::fs::File;
+use monitor::{Choice, Stop, choose};
+use words::Refusal;
 
 // What goes from entry to entry: the two readings, the lines so far, and whether the log is over.
-#[derive(Clone, Copy)]
-pub(crate) struct Dump {
-    pub(crate) first: Reader,
-    pub(crate) second: Reader,
-    pub(crate) tally: Tally,
-    pub(crate) over: bool,
+#[derive(Drop)]
+pub(crate) struct Dump<'a> {
+    pub(crate) first: Reader<'a>,
+    pub(crate) second: Reader<'a>,
+    pub(crate) tally: Tally<'a>,
+    over: bool,
 }
 
-// How a dump ended: the lines, whether a read failed and the system's number for that, whether both readings came to the same end, and that of the first: the number of the
-// refusal, 0 at the end of the file, and how many records were read.
-#[derive(Clone, Copy)]
-pub(crate) struct Ending {
-    pub(crate) tally: Tally,
-    pub(crate) unread: bool,
-    pub(crate) why: i32,
-    pub(crate) agreed: bool,
-    pub(crate) refusal: u8,
-    pub(crate) records: u64,
-}
-
-impl Dump {
+impl<'a> Dump<'a> {
     // Gives a dump that is not over.
-    pub(crate) fn on(first: Reader, second: Reader, tally: Tally) -> Dump {
+    pub(crate) fn on(first: Reader<'a>, second: Reader<'a>, tally: Tally<'a>) -> Self {
         Dump {
             first,
             second,
@@ -39,139 +25,63 @@ impl Dump {
         }
     }
 
-    // Says whether a read has failed.
-    fn has_failed(self) -> bool {
-        self.first.failed | self.second.failed
-    }
-
-    // Gives the system's number of the read that has failed, 0 where none has.
-    fn why(self) -> i32 {
-        let first = self.first;
-        let second = self.second;
-        if first.failed {
-            return first.why;
-        }
-        second.why
+    // Gives the system's number of the read that has failed, if one has.
+    pub(crate) fn failure(&self) -> Option<i32> {
+        self.first.failure.or(self.second.failure)
     }
 
     // Says whether to go on. Nothing is written after a failure.
-    fn is_going(self) -> bool {
-        !self.over & !self.tally.listed.failed & !self.has_failed()
+    fn is_going(&self) -> bool {
+        !self.over & self.tally.listed.failure.is_none() & self.failure().is_none()
     }
 
-    // Gives what is next: "Entries come in order of their first record in the file."
-    fn choice(self) -> Choice {
-        let first = self.first;
-        let second = self.second;
-        let one = first.side;
-        let other = second.side;
-        choose(one, other)
-    }
-
-    fn feed_first(self, input: &File, ahead: &mut Block) -> Dump {
-        let first = self.first;
-        let second = self.second;
-        let tally = self.tally;
-        Dump::on(first.feed(input, ahead), second, tally)
-    }
-
-    fn feed_second(self, again: &File, behind: &mut Block) -> Dump {
-        let first = self.first;
-        let second = self.second;
-        let tally = self.tally;
-        Dump::on(first, second.feed(again, behind), tally)
-    }
-
-    fn give_first(self, listing: &mut Block, options: Options) -> Dump {
-        let first = self.first;
-        let second = self.second;
-        let tally = self.tally;
-        let listed = tally.list(listing, options, first.found());
-        Dump::on(first.give(), second, listed)
-    }
-
-    fn give_second(self, listing: &mut Block, options: Options) -> Dump {
-        let first = self.first;
-        let second = self.second;
-        let tally = self.tally;
-        let listed = tally.list(listing, options, second.found());
-        Dump::on(first, second.give(), listed)
-    }
-
-    // The same dump, over.
-    fn end(self) -> Dump {
-        let first = self.first;
-        let second = self.second;
-        let tally = self.tally;
-        Dump {
-            first,
-            second,
-            tally,
-            over: true,
+    // Does what is next: "Entries come in order of their first record in the file."
+    fn turn(&mut self) {
+        match choose(self.first.side, self.second.side) {
+            Choice::FeedFirst => self.first.feed(),
+            Choice::FeedSecond => self.second.feed(),
+            Choice::GiveFirst => {
+                self.tally.list(self.first.side.found);
+                self.first.side = self.first.side.give();
+            }
+            Choice::GiveSecond => {
+                self.tally.list(self.second.side.found);
+                self.second.side = self.second.side.give();
+            }
+            Choice::Over => self.over = true,
         }
     }
 
-    // Does what is next. The first reading reads on of `input`, and the second of `again`.
-    fn turn(
-        self,
-        input: &File,
-        again: &File,
-        ahead: &mut Block,
-        behind: &mut Block,
-        listing: &mut Block,
-        options: Options,
-    ) -> Dump {
-        match self.choice() {
-            Choice::FeedFirst => self.feed_first(input, ahead),
-            Choice::FeedSecond => self.feed_second(again, behind),
-            Choice::GiveFirst => self.give_first(listing, options),
-            Choice::GiveSecond => self.give_second(listing, options),
-            Choice::Over => self.end(),
-        }
-    }
-
-    // Lists the log to its end, or up to what fails. A proved loop has to end, and nothing says that the file does: it counts down from a
+    // Lists the log to its end, or up to what fails. A proved loop has to end, and nothing says that the file does: it counts up to a
     // number that no run uses up.
-    pub(crate) fn list_all(
-        self,
-        input: &File,
-        again: &File,
-        ahead: &mut Block,
-        behind: &mut Block,
-        listing: &mut Block,
-        options: Options,
-    ) -> Dump {
-        let mut next = self;
-        let mut turns = u64::MAX;
-        while turns > 0 && next.is_going() {
-            next = next.turn(input, again, ahead, behind, listing, options);
-            turns -= 1;
+    pub(crate) fn list_all(&mut self) {
+        for _ in 0..u64::MAX {
+            if !self.is_going() {
+                return;
+            }
+            self.turn();
         }
-        next
+    }
+
+    // Gives how many records of the file were read.
+    pub(crate) fn records(&self) -> u64 {
+        self.first.side.walk.records
+    }
+
+    // Gives the refusal at which the first reading ended, if it did not end with the file.
+    pub(crate) fn refusal(&self) -> Option<Refusal> {
+        match self.first.side.stop {
+            Stop::Reading | Stop::Ended => None,
+            Stop::Refused(refusal) => Some(refusal),
+        }
     }
 
     // Says whether both readings came to the same end, and every record is in one entry. A file that changes between them shows here.
-    fn is_agreed(self) -> bool {
-        let first = self.first;
-        let second = self.second;
-        let records = first.records();
+    pub(crate) fn is_agreed(&self) -> bool {
+        let records = self.records();
         self.over
-            & (first.refusal() == second.refusal())
-            & (records == second.records())
+            & (self.first.side.stop == self.second.side.stop)
+            & (records == self.second.side.walk.records)
             & (records == self.tally.records)
-    }
-
-    // Gives how the dump ended.
-    pub(crate) fn ending(self) -> Ending {
-        let first = self.first;
-        let tally = self.tally;
-        Ending {
-            tally,
-            unread: self.has_failed(),
-            why: self.why(),
-            agreed: self.is_agreed(),
-            refusal: first.refusal(),
-            records: first.records(),
-        }
     }
 }

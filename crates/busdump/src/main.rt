@@ -11,23 +11,20 @@ mod runs;
 mod tallies;
 
 use complaints::{PROGRAM, show_usage};
-use options::{Call, read_call};
+use options::{Unread, read_call};
 use runs::dump_files;
-use status::{Begun, Status, begin};
+use status::Status;
 
 // Does what the arguments from a place on ask, and gives how that ended.
 fn run(rt: HostRuntime, first: usize) -> Status {
     match read_call(rt, first) {
-        Call::Help => show_usage(rt, true),
-        Call::NoFile => show_usage(rt, false),
-        Call::Wrong => Status::Usage,
-        Call::Dump(options) => dump_files(rt, options),
+        Ok(options) => dump_files(rt, options),
+        Err(Unread::Help) => show_usage(rt, true),
+        Err(Unread::NoFile) => show_usage(rt, false),
+        Err(Unread::Wrong) => Status::Usage,
     }
 }
 
 fn main(rt: HostRuntime) {
-    match begin(rt, &PROGRAM) {
-        Begun::On(front) => front.end(rt, &PROGRAM, run(rt, front.first)),
-        Begun::Over(front, status) => front.end(rt, &PROGRAM, status),
-    }
+    status::run(rt, &PROGRAM, |first| run(rt, first));
 }

@@ -5,7 +5,7 @@ use status::ask;
 // Puts the argument at a place, and a space.
 fn put_argument(rt: HostRuntime, sink: Sink, block: &mut Block, place: usize) -> Sink {
     let mut text = [0u8; NAME_BYTES];
-    let length = ask(rt, place, &mut text).length;
+    let length = ask(rt, place, &mut text).unwrap_or(0);
     sink.put_name(block, &text[..length]).put(block, b' ')
 }
 
@@ -20,10 +20,8 @@ pub(crate) fn put_title(
     name: &[u8],
 ) -> Sink {
     let mut after = sink.put_text(block, b"# busdump ");
-    let mut place = begin;
-    while place < end {
+    for place in begin..end {
         after = put_argument(rt, after, block, place);
-        place += 1;
     }
     after.put_named(block, b"", name)
 }

@@ -3,26 +3,26 @@
 ghost use Rattle.std.specs.Prelude.{◌≤◌, length};
 
 use lines::{Block, Source};
-use monitor::{Found, Side, Stop};
-use records::{Opened, open_file};
+use monitor::Side;
+use records::open_file;
 use std::fs::File;
 use windows::Window;
 use words::Refusal;
 
-// A reading: the side, which bytes of the chunk wait, and whether a read has failed. `why` is the system's number of that failure. Each reading has its own
-// descriptor of the file, which is lent to it.
-#[derive(Clone, Copy)]
-pub(crate) struct Reader {
+// A reading: the side, which bytes of the chunk wait, and the system's number for a read that has failed. Each reading has its own descriptor of the file.
+// That and the chunk are lent to it.
+#[derive(Drop)]
+pub(crate) struct Reader<'a> {
+    file: &'a File,
+    chunk: &'a mut Block,
+    window: Window,
     pub(crate) side: Side,
-    pub(crate) window: Window,
-    pub(crate) failed: bool,
-    pub(crate) why: i32,
+    pub(crate) failure: Option<i32>,
 }
 
-// How a reading begins: behind the version, refused with so many bytes in the chunk, or with a read that failed, of which it has the system's number.
+// Why no reading begins: the file was refused, with so many bytes in the chunk, or the read failed, with the system's number for that.
 #[derive(Clone, Copy)]
-pub(crate) enum Begun {
-    Behind(Reader),
+pub(crate) enum Unbegun {
     Refused(Refusal, usize),
     Failed(i32),
 }
@@ -34,105 +34,51 @@ fn read_behind(file: &File, chunk: &mut [u8], kept: usize) -> Result<usize, i32>
     Source::Opened(file).read(&mut chunk[kept..])
 }
 
-impl Reader {
-    // Begins to read a file, for a bus: "One version byte, 1, opens the file."
-    pub(crate) fn begin(file: &File, bus: u8, chunk: &mut Block) -> Begun {
-        let count = match Source::Opened(file).read(chunk) {
-            Ok(count) => count,
-            Err(why) => {
-                return Begun::Failed(why);
-            }
-        };
-        let window = Window::empty().with_more(chunk, count);
-        match open_file(window.bytes(chunk)) {
-            Opened::At(cursor) => Begun::Behind(Reader {
-                side: Side::start(bus),
-                window: window.after(cursor.at),
-                failed: false,
-                why: 0,
-            }),
-            Opened::Refused(refusal) => Begun::Refused(refusal, count),
-        }
+// Reads the front of a file, and gives what waits in the chunk behind the version: "One version byte, 1, opens the file."
+pub(crate) fn open(file: &File, chunk: &mut Block) -> Result<Window, Unbegun> {
+    let count = Source::Opened(file).read(chunk).map_err(Unbegun::Failed)?;
+    let window = Window::empty().with_more(chunk, count);
+    match open_file(window.bytes(chunk)) {
+        Ok(cursor) => Ok(window.after(cursor.at)),
+        Err(refusal) => Err(Unbegun::Refused(refusal, count)),
     }
+}
 
-    // Gives the reading after bytes of the chunk, so many of which were taken.
-    fn after(self, side: Side, taken: usize) -> Reader {
-        let window = self.window;
+impl<'a> Reader<'a> {
+    // Gives the reading of an opened file, for a bus.
+    pub(crate) fn start(file: &'a File, chunk: &'a mut Block, window: Window, bus: u8) -> Self {
         Reader {
-            side,
-            window: window.after(taken),
-            failed: self.failed,
-            why: self.why,
-        }
-    }
-
-    // Gives the reading with these bytes of the chunk, or with a read that failed.
-    fn with(self, window: Window, failed: bool, why: i32) -> Reader {
-        let side = self.side;
-        Reader {
-            side,
+            file,
+            chunk,
             window,
-            failed,
-            why,
+            side: Side::start(bus),
+            failure: None,
         }
     }
 
-    // Gives the reading at the end of the file, where these bytes are all that is left.
-    fn end(self, tail: &[u8]) -> Reader {
-        let side = self.side;
-        self.after(side.end(tail), 0)
-    }
-
-    // Reads on, behind the bytes of a record that is not whole yet.
-    fn refill(self, file: &File, chunk: &mut Block) -> Reader {
-        let before = self.window;
-        let window = before.make_room(chunk);
-        match read_behind(file, chunk, window.to) {
-            Ok(0) => self.end(window.bytes(chunk)),
-            Ok(came) => self.with(window.with_more(chunk, came), false, 0),
-            Err(why) => self.with(window, true, why),
+    // Reads on, behind the bytes of a record that is not whole yet. At the end of the file these are all that is left.
+    fn refill(&mut self) {
+        let window = self.window.make_room(self.chunk);
+        match read_behind(self.file, self.chunk, window.to) {
+            Ok(0) => {
+                self.side = self.side.end(window.bytes(self.chunk));
+                self.window = window;
+            }
+            Ok(came) => self.window = window.with_more(self.chunk, came),
+            Err(why) => {
+                self.failure = Some(why);
+                self.window = window;
+            }
         }
     }
 
     // Brings the side to its next entry, or to the end of the chunk; where no record of it waits any more, the next is read.
-    pub(crate) fn feed(self, file: &File, chunk: &mut Block) -> Reader {
-        let side = self.side;
-        let window = self.window;
-        let fed = side.feed(window.bytes(chunk));
-        let taken = fed.taken;
-        if taken == 0 {
-            return self.refill(file, chunk);
+    pub(crate) fn feed(&mut self) {
+        let fed = self.side.feed(self.window.bytes(self.chunk));
+        if fed.taken == 0 {
+            return self.refill();
         }
-        let after = fed.side;
-        self.after(after, taken)
-    }
-
-    // Gives the reading without the entry that waited.
-    pub(crate) fn give(self) -> Reader {
-        let side = self.side;
-        self.after(side.give(), 0)
-    }
-
-    // Gives the entry that waits.
-    pub(crate) fn found(self) -> Found {
-        let side = self.side;
-        let found = side.found;
-        found
-    }
-
-    // Gives how the side ended: the number of the refusal, 0 at the end of the file.
-    pub(crate) fn refusal(self) -> u8 {
-        let side = self.side;
-        let stop = side.stop;
-        match stop {
-            Stop::Reading => Refusal::NONE.0,
-            Stop::Ended(refusal) => refusal.0,
-        }
-    }
-
-    // Gives how many records of the file were read.
-    pub(crate) fn records(self) -> u64 {
-        let side = self.side;
-        side.walk.records
+        self.side = fed.side;
+        self.window = self.window.after(fed.taken);
     }
 }

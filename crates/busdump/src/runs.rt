@@ -1,10 +1,10 @@
 // One run of the program: the files opened, listed and closed, one after the other (02 a). Every file is opened to read alone, so that one
 // which gets the number of a closed standard error takes none of what is said. Refusals: as the closing line of a file says them.
 use crate::complaints::{PROGRAM, explain_beginning, explain_record};
-use crate::dumps::{Dump, Ending};
+use crate::dumps::Dump;
 use crate::options::{BUS_A, BUS_B, Options};
 use crate::outputs::put_title;
-use crate::readers::{Begun, Reader};
+use crate::readers::{Reader, Unbegun, open};
 use crate::tallies::{Tally, byte_of};
 use lines::{Block, NAME_BYTES, Sink, Target, between, complain, is_dash, open_named, remark};
 use status::{Status, ask, count_arguments};
@@ -13,32 +13,18 @@ use std::io::Seek;
 use texts::put_log_refused;
 use words::Refusal;
 
-// A file that is closed: where the next one's lines go, and whether all of it was read and listed.
-#[derive(Clone, Copy)]
-struct Closed {
-    listed: Sink,
-    well: bool,
-}
-
-impl Closed {
-    // A file that is closed by what went wrong, which was said.
-    fn badly(listed: Sink) -> Closed {
-        Closed {
-            listed,
-            well: false,
-        }
-    }
-}
+// Where the next file's lines go: in an Err where not all of this one was read and listed, which was said.
+type Closed = Result<Sink, Sink>;
 
 // Says why a file has no log, and closes it by its name.
 fn give_up(listed: Sink, listing: &mut Block, name: &[u8], why: &[u8]) -> Closed {
     remark(&PROGRAM, name, why);
-    Closed::badly(listed.end_in_error(listing, &PROGRAM, name))
+    Err(listed.end_in_error(listing, &PROGRAM, name))
 }
 
 // Says what failed, by the system's number for it, and closes the file by its name.
 fn fail(listed: Sink, listing: &mut Block, name: &[u8], why: i32) -> Closed {
-    Closed::badly(listed.fail(listing, &PROGRAM, name, why))
+    Err(listed.fail(listing, &PROGRAM, name, why))
 }
 
 // Closes a file that was refused as a whole, and that begins with so many bytes of the chunk.
@@ -50,94 +36,45 @@ fn end_refused(
     chunk: &Block,
     count: usize,
 ) -> Closed {
-    let ended = put_log_refused(listed, listing, refusal.0, 0, 0, 0);
+    let ended = put_log_refused(listed, listing, refusal.number(), 0, 0, 0);
     let told = ended.flush_told(listing, &PROGRAM);
-    explain_beginning(name, refusal.0, between(chunk, 0, count));
-    Closed::badly(told)
+    explain_beginning(name, refusal, between(chunk, 0, count));
+    Err(told)
 }
 
-impl Ending {
+// Closes a file on which its readings did not agree.
+const CHANGED: &[u8] = b": it changed while it was read, and these lines are not its log";
+
+impl Dump<'_> {
     // Closes a log that was read up to its end, or up to a record that is refused.
-    fn close_read(self, listing: &mut Block, name: &[u8]) -> Closed {
-        let tally = self.tally;
-        let ended = tally.close(listing, self.refusal, self.records);
-        let listed = ended.flush_told(listing, &PROGRAM);
-        if self.refusal == Refusal::NONE.0 {
-            return Closed {
-                listed,
-                well: !listed.failed,
-            };
+    fn close_read(&mut self, name: &[u8]) -> Closed {
+        let refusal = self.refusal();
+        let records = self.records();
+        let listed = self.tally.close(refusal, records);
+        if let Some(refusal) = refusal {
+            explain_record(name, refusal, records, byte_of(records));
+            return Err(listed);
         }
-        explain_record(name, self.refusal, self.records, byte_of(self.records));
-        Closed::badly(listed)
+        match listed.failure {
+            None => Ok(listed),
+            Some(_) => Err(listed),
+        }
     }
 
     // Closes a log, whatever stopped it.
-    fn close(self, listing: &mut Block, name: &[u8]) -> Closed {
-        let tally = self.tally;
-        let listed = tally.listed;
-        if listed.failed {
-            complain(&PROGRAM, b"standard output", listed.why);
-            return Closed::badly(listed);
+    fn close(&mut self, name: &[u8]) -> Closed {
+        let listed = self.tally.listed;
+        if let Some(why) = listed.failure {
+            complain(&PROGRAM, b"standard output", why);
+            return Err(listed);
         }
-        if self.unread {
-            return fail(listed, listing, name, self.why);
+        if let Some(why) = self.failure() {
+            return fail(listed, self.tally.block, name, why);
         }
-        if !self.agreed {
-            return give_up(
-                listed,
-                listing,
-                name,
-                b": it changed while it was read, and these lines are not its log",
-            );
+        if !self.is_agreed() {
+            return give_up(listed, self.tally.block, name, CHANGED);
         }
-        self.close_read(listing, name)
-    }
-}
-
-// Lists the log of a file of which both readings have begun.
-fn dump_readings(
-    start: Dump,
-    input: &File,
-    again: &File,
-    ahead: &mut Block,
-    behind: &mut Block,
-    listing: &mut Block,
-    name: &[u8],
-    options: Options,
-) -> Closed {
-    let last = start.list_all(input, again, ahead, behind, listing, options);
-    last.ending().close(listing, name)
-}
-
-// Lists the log of a file of which the first reading has begun.
-fn dump_behind(
-    first: Reader,
-    input: &File,
-    ahead: &mut Block,
-    again: &File,
-    listed: Sink,
-    listing: &mut Block,
-    name: &[u8],
-    options: Options,
-) -> Closed {
-    let mut behind = io::large_buffer();
-    match Reader::begin(again, BUS_B, &mut behind) {
-        Begun::Behind(second) => {
-            let start = Dump::on(first, second, Tally::start(listed));
-            dump_readings(
-                start,
-                input,
-                again,
-                ahead,
-                &mut behind,
-                listing,
-                name,
-                options,
-            )
-        }
-        Begun::Refused(_, _) => give_up(listed, listing, name, b": it changed while it was read"),
-        Begun::Failed(why) => fail(listed, listing, name, why),
+        self.close_read(name)
     }
 }
 
@@ -151,17 +88,28 @@ fn dump_both(
     options: Options,
 ) -> Closed {
     let mut ahead = io::large_buffer();
-    match Reader::begin(input, BUS_A, &mut ahead) {
-        Begun::Behind(first) => {
-            dump_behind(
-                first, input, &mut ahead, again, listed, listing, name, options,
-            )
+    let mut behind = io::large_buffer();
+    let first = match open(input, &mut ahead) {
+        Ok(window) => window,
+        Err(Unbegun::Refused(refusal, count)) => {
+            return end_refused(listed, listing, name, refusal, &ahead, count);
         }
-        Begun::Refused(refusal, count) => {
-            end_refused(listed, listing, name, refusal, &ahead, count)
+        Err(Unbegun::Failed(why)) => return fail(listed, listing, name, why),
+    };
+    let second = match open(again, &mut behind) {
+        Ok(window) => window,
+        Err(Unbegun::Refused(_, _)) => {
+            return give_up(listed, listing, name, b": it changed while it was read");
         }
-        Begun::Failed(why) => fail(listed, listing, name, why),
-    }
+        Err(Unbegun::Failed(why)) => return fail(listed, listing, name, why),
+    };
+    let mut dump = Dump::on(
+        Reader::start(input, &mut ahead, first, BUS_A),
+        Reader::start(again, &mut behind, second, BUS_B),
+        Tally::start(options.wanted(), options.in_words, listed, listing),
+    );
+    dump.list_all();
+    dump.close(name)
 }
 
 // Lists the log of a file that is open once. A pipe has no place to go back to: what it brings comes once.
@@ -199,8 +147,8 @@ fn dump_file(
 ) -> Closed {
     let titled = put_title(rt, sink, listing, options.begin, options.end, name);
     let listed = titled.flush_told(listing, &PROGRAM);
-    if listed.failed {
-        return Closed::badly(listed);
+    if listed.failure.is_some() {
+        return Err(listed);
     }
     if is_dash(name) {
         return give_up(
@@ -225,22 +173,24 @@ fn dump_argument(
     options: Options,
 ) -> Closed {
     let mut name = [0u8; NAME_BYTES];
-    let length = ask(rt, place, &mut name).length;
+    let length = ask(rt, place, &mut name).unwrap_or(0);
     dump_file(rt, sink, listing, &name[..length], options)
 }
 
 // Lists the logs of all files, and gives whether all went well. Where standard output fails, nothing could be shown of those behind.
 pub(crate) fn dump_files(rt: HostRuntime, options: Options) -> Status {
-    let count = count_arguments(rt);
     let mut listing = io::large_buffer();
     let mut sink = Sink::to(Target::Output(rt.stdout()));
     let mut status = Status::Good;
-    let mut place = options.first;
-    while place < count && !sink.failed {
+    for place in options.first..count_arguments(rt) {
+        if sink.failure.is_some() {
+            break;
+        }
         let closed = dump_argument(rt, sink, &mut listing, place, options);
-        sink = closed.listed;
-        status = Status::of(closed.well).after(status);
-        place += 1;
+        status = Status::of(closed.is_ok()).after(status);
+        sink = match closed {
+            Ok(listed) | Err(listed) => listed,
+        };
     }
     status
 }

@@ -1,15 +1,16 @@
 // The entries as they are given: each is counted, and its line put where it is asked for (02 a; docs/LINES.md). Refusals: none.
 use crate::complaints::PROGRAM;
-use crate::options::Options;
 use lines::{Block, Sink};
-use monitor::{Entry, Found};
-use std::num::wrapping_add_u64;
-use texts::{put_entry, put_log_end, put_log_refused};
+use monitor::{Entry, Logged};
+use texts::{Wanted, put_entry, put_log_end, put_log_refused};
 use words::Refusal;
 
-// Where the lines go, how many entries there were, and how many records they have.
-#[derive(Clone, Copy)]
-pub(crate) struct Tally {
+// Which entries are shown, and how; where the lines go, with the block where they wait; how many entries there were, and how many records they have.
+#[derive(Drop)]
+pub(crate) struct Tally<'a> {
+    wanted: Wanted,
+    in_words: bool,
+    pub(crate) block: &'a mut Block,
     pub(crate) listed: Sink,
     pub(crate) entries: u64,
     pub(crate) records: u64,
@@ -17,7 +18,7 @@ pub(crate) struct Tally {
 
 // Gives the place of a record's first byte: 16 bytes a record, and the version before them.
 pub(crate) fn byte_of(record: u64) -> u64 {
-    wrapping_add_u64(record << 4, 1)
+    (record << 4).wrapping_add(1)
 }
 
 // Gives how many records an entry has.
@@ -28,56 +29,52 @@ fn records_of(entry: Entry) -> u64 {
     }
 }
 
-impl Tally {
+impl<'a> Tally<'a> {
     // Gives the tally before any entry.
-    pub(crate) fn start(listed: Sink) -> Tally {
+    pub(crate) fn start(
+        wanted: Wanted,
+        in_words: bool,
+        listed: Sink,
+        block: &'a mut Block,
+    ) -> Self {
         Tally {
+            wanted,
+            in_words,
+            block,
             listed,
             entries: 0,
             records: 0,
         }
     }
 
-    // Counts an entry of so many records, behind whose line the sink is.
-    fn count(self, listed: Sink, records: u64) -> Tally {
-        Tally {
-            listed,
-            entries: wrapping_add_u64(self.entries, 1),
-            records: wrapping_add_u64(self.records, records),
+    // Counts the entry that was found, and puts its line where it is asked for.
+    pub(crate) fn list(&mut self, found: Option<Logged>) {
+        let Some(logged) = found else {
+            return;
+        };
+        let entry = logged.entry;
+        if self.wanted.shows(entry) {
+            self.listed = put_entry(self.listed, self.block, entry, self.in_words);
         }
-    }
-
-    // Puts the line of an entry, where it is asked for.
-    fn list_entry(self, listing: &mut Block, options: Options, entry: Entry) -> Sink {
-        let listed = self.listed;
-        let wanted = options.wanted;
-        if wanted.shows(entry) {
-            return put_entry(listed, listing, entry, options.in_words);
-        }
-        listed
-    }
-
-    // Lists the entry that was found.
-    pub(crate) fn list(self, listing: &mut Block, options: Options, found: Found) -> Tally {
-        match found {
-            Found::Nothing => self,
-            Found::Entry(logged) => {
-                let entry = logged.entry;
-                let listed = self.list_entry(listing, options, entry);
-                self.count(listed, records_of(entry))
-            }
-        }
+        self.entries = self.entries.wrapping_add(1);
+        self.records = self.records.wrapping_add(records_of(entry));
     }
 
     // Puts the line that closes a log: so many records were read, and the next was refused, or there was none. The lines that wait go out first, so that a
-    // failure of theirs is seen.
-    pub(crate) fn close(self, listing: &mut Block, refusal: u8, records: u64) -> Sink {
-        let waiting = self.listed;
-        let listed = waiting.flush_told(listing, &PROGRAM);
-        if refusal == Refusal::NONE.0 {
-            return put_log_end(listed, listing, self.entries, records);
-        }
-        let byte = byte_of(records);
-        put_log_refused(listed, listing, refusal, records, byte, self.entries)
+    // failure of theirs is seen; the last one goes out at once.
+    pub(crate) fn close(&mut self, refusal: Option<Refusal>, records: u64) -> Sink {
+        let listed = self.listed.flush_told(self.block, &PROGRAM);
+        let ended = match refusal {
+            None => put_log_end(listed, self.block, self.entries, records),
+            Some(refusal) => put_log_refused(
+                listed,
+                self.block,
+                refusal.number(),
+                records,
+                byte_of(records),
+                self.entries,
+            ),
+        };
+        ended.flush_told(self.block, &PROGRAM)
     }
 }

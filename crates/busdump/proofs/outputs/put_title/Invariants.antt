@@ -1,9 +1,0 @@
--- `put_title` is safe and ends: the measure is the number of arguments that are left before the end. Assumes nothing.
-use Rattle.std.proofs.Common.{◌-◌}
-use Rattle.busdump.proofs.outputs.put_title.Given as goal
-
-abbrev pub invariant-loop-place : goal.invariant-loop-place
-invariant-loop-place l = Unit {0}
-
-abbrev pub decreases-loop-place : goal.decreases-loop-place
-decreases-loop-place l = l.end - l.place
