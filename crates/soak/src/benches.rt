@@ -5,7 +5,8 @@ use crate::calls::{Call, Lending, SettingUp};
 use crate::draws::mixed_mask;
 use crate::sums::{START, add_answer, add_byte, add_received, add_state};
 use std::num::wrapping_add_u64;
-use terminal::{Happened, SetUp, Setup, Terminal};
+use terminal::{Happened, RefusedSetUp, Setup, Terminal};
+use words::Refusal;
 
 #[derive(Clone, Copy)]
 pub(crate) struct Bench {
@@ -17,7 +18,7 @@ pub(crate) struct Bench {
 fn least(size: usize, most: usize) -> usize
     ensures { result ≤ most }
 {
-    if size < most { size } else { most }
+    size.min(most)
 }
 
 // Gives 64 masks: "With m = 0 every mask is FFFFFFFFh; else receive mask i is the low 32 bits of mix(m + i) OR its high 32 bits".
@@ -27,16 +28,18 @@ fn make_masks(m: u64, from: u64) -> [u32; 64] {
         return masks;
     }
     let start = wrapping_add_u64(m, from);
-    let mut i = 0;
-    while i < 64 {
-        masks[i] = mixed_mask(wrapping_add_u64(start, i as u64));
-        i += 1;
+    for (i, mask) in masks.iter_mut().enumerate() {
+        *mask = mixed_mask(wrapping_add_u64(start, i as u64));
     }
     masks
 }
 
 // Sets up with as many masks of the tables as the call says.
-fn lend_masks(call: SettingUp, receive: &[u32], transmit: &[u32]) -> SetUp {
+fn lend_masks(
+    call: SettingUp,
+    receive: &[u32],
+    transmit: &[u32],
+) -> Result<Terminal, RefusedSetUp> {
     let received = least(call.receive, receive.len());
     let transmitted = least(call.transmit, transmit.len());
     terminal::set_up(
@@ -65,10 +68,14 @@ impl Bench {
         }
     }
 
-    // 1 and 3: the refusal, and what the terminal says of itself.
-    fn outcome(self, refusal: u8) -> Bench {
+    // 1 and 3: the refusal's number, 0 where there is none, and what the terminal says of itself.
+    fn outcome(self, refusal: Option<Refusal>) -> Bench {
         let terminal = self.terminal;
-        let sum = add_state(add_byte(self.sum, refusal), terminal);
+        let number = match refusal {
+            Some(refusal) => refusal.number(),
+            None => 0,
+        };
+        let sum = add_state(add_byte(self.sum, number), terminal);
         Bench { terminal, sum }
     }
 
@@ -78,19 +85,16 @@ impl Bench {
             terminal,
             sum: self.sum,
         };
-        bench.outcome(0)
+        bench.outcome(None)
     }
 
     fn set_up(self, call: SettingUp) -> Bench {
         let received = make_masks(call.masks, 0);
         let transmitted = make_masks(call.masks, 64);
-        let made = lend_masks(call, &received, &transmitted);
-        let refusal = made.refusal;
-        if refusal.0 != 0 {
-            return self.outcome(refusal.0);
+        match lend_masks(call, &received, &transmitted) {
+            Ok(terminal) => self.hosted(terminal),
+            Err(refused) => self.outcome(Some(refused.refusal)),
         }
-        let terminal = made.terminal;
-        self.hosted(terminal)
     }
 
     fn happen(
@@ -101,15 +105,14 @@ impl Bench {
         copy: &mut [u16; 1024],
     ) -> Bench {
         let happened = lend(self.terminal, call, receive, transmit);
-        let refusal = happened.refusal;
-        if refusal.0 != 0 {
-            return self.outcome(refusal.0);
+        if happened.refusal.is_some() {
+            return self.outcome(happened.refusal);
         }
         let answer = happened.answer;
         let terminal = happened.terminal;
         let answered = add_answer(add_byte(self.sum, 0), answer, happened.cut);
         let sum = add_state(answered, terminal);
-        if answer.given {
+        if answer.is_some() {
             let whole = add_received(sum, receive, copy);
             return Bench {
                 terminal,
@@ -121,10 +124,10 @@ impl Bench {
 
     // The host writes the transmit table.
     fn send(self, place: usize, word: u16, transmit: &mut [u16; 2048]) -> Bench {
-        if place < 2048 {
-            transmit[place] = word;
+        if let Some(at) = transmit.get_mut(place) {
+            *at = word;
         }
-        self.outcome(0)
+        self.outcome(None)
     }
 
     // Makes the call, and adds its outcome to the sum.

@@ -1,7 +1,7 @@
 // C, the new commands of the mixed part (bench/soak.h).
 use crate::counts::{awaited, sent};
 use crate::draws::{draw, draw_short, draw_step, one_in};
-use crate::streams::{DATA, FULL, Made, Stream, other_bus};
+use crate::streams::{Made, Stage, Stream, other_bus};
 use std::num::wrapping_add_u64;
 use words::CommandWord;
 
@@ -92,7 +92,7 @@ impl Stream {
         stream.from = time;
         stream.left = left;
         stream.first = true;
-        stream.stage = if left == 0 { FULL } else { DATA };
+        stream.stage = if left == 0 { Stage::Full } else { Stage::Data };
         stream
     }
 

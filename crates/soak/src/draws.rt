@@ -12,13 +12,6 @@ const STEPS: [u64; 16] = [
     0, 1, 20, 100, 194, 195, 200, 205, 206, 207, 259, 260, 261, 400, 460, 1000,
 ];
 
-// Gives the whole product of two halves.
-fn product(a: u32, b: u32) -> u64
-    ensures product { result ≡ a * b }
-{
-    (a as u64) * (b as u64)
-}
-
 fn low_half(n: u64) -> u32
     ensures half { result ≡ n % 2 ^ 32 }
 {
@@ -31,18 +24,11 @@ fn high_half(n: u64) -> u32
     (n >> 32) as u32
 }
 
-// Gives the low 64 bits of a product, by halves: the language has no product that wraps. The two high halves' product is past them.
+// Gives the low 64 bits of a product.
 pub(crate) fn times(a: u64, b: u64) -> u64
     ensures wraps { result ≡ a * b % 2 ^ 64 }
 {
-    let a_low = low_half(a);
-    let a_high = high_half(a);
-    let b_low = low_half(b);
-    let b_high = high_half(b);
-    let low = product(a_low, b_low);
-    let one = product(a_low, b_high);
-    let other = product(a_high, b_low);
-    wrapping_add_u64(low, wrapping_add_u64(one, other) << 32)
+    a.wrapping_mul(b)
 }
 
 // "mix(z)"

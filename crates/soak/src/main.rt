@@ -20,8 +20,8 @@ mod sweeps;
 
 use arguments::{argument, is_there};
 use benches::Bench;
+use calls::TABLE;
 use draws::draw_word;
-use lines::Number;
 use outputs::{write_line, write_usage};
 use streams::Stream;
 
@@ -34,10 +34,8 @@ struct Progress {
 
 // "The transmit table starts with draw(65536) at each place, 0 to 1,023".
 fn fill(seed: &mut u64, transmit: &mut [u16; 2048]) {
-    let mut i = 0;
-    while i < 1024 {
-        transmit[i] = draw_word(seed);
-        i += 1;
+    for word in &mut transmit[..TABLE] {
+        *word = draw_word(seed);
     }
 }
 
@@ -87,9 +85,7 @@ fn run(
         stream: Stream::start(),
         bench: Bench::start(),
     };
-    let mut number = 0;
-    while number < calls {
-        number += 1;
+    for number in 1..=calls {
         progress = turn(progress, number, seed, receive, transmit, copy);
         if !report(rt, number, calls, every, progress.bench.sum) {
             return;
@@ -116,13 +112,13 @@ fn soak(rt: HostRuntime, calls: u64, start: u64, every: u64) {
 }
 
 fn main(rt: HostRuntime) {
-    let Number::Is(calls) = argument(rt, 1, 0) else {
+    let Some(calls) = argument(rt, 1, 0) else {
         return write_usage();
     };
-    let Number::Is(seed) = argument(rt, 2, 1) else {
+    let Some(seed) = argument(rt, 2, 1) else {
         return write_usage();
     };
-    let Number::Is(every) = argument(rt, 3, 100000) else {
+    let Some(every) = argument(rt, 3, 100000) else {
         return write_usage();
     };
     if (calls == 0) | (every == 0) | is_there(rt, 4) {

@@ -1,7 +1,7 @@
 // G, how the mixed part goes on with a message (bench/soak.h), by its stage.
 use crate::calls::addressed;
 use crate::draws::{draw, draw_byte, draw_short, draw_step, draw_word, one_in};
-use crate::streams::{DATA, FULL, IDLE, Made, STATUS, Stream};
+use crate::streams::{Made, Stage, Stream};
 use std::num::{wrapping_add_u64, wrapping_sub_u16};
 use words::CommandWord;
 
@@ -48,7 +48,7 @@ impl Stream {
         let word = second_word(seed, partner, command.count());
         let mut stream = self;
         stream.partner = partner;
-        stream.stage = STATUS;
+        stream.stage = Stage::Status;
         stream.plan(seed, time, self.bus, 0, word)
     }
 
@@ -58,7 +58,7 @@ impl Stream {
         let mut stream = self;
         stream.left = left;
         if left == 0 {
-            stream.stage = FULL;
+            stream.stage = Stage::Full;
         }
         let word = draw_word(seed);
         stream.plan(seed, time, self.bus, 1, word)
@@ -89,7 +89,7 @@ impl Stream {
         let turned = if one_in(seed, 16) { 0x0800 } else { 0 };
         let mut stream = self;
         stream.from = time;
-        stream.stage = DATA;
+        stream.stage = Stage::Data;
         stream.plan(seed, time, self.bus, 0, word ^ turned)
     }
 
@@ -105,7 +105,7 @@ impl Stream {
     fn end(self, ticks: u64) -> Made {
         let time = self.after(ticks);
         let mut stream = self;
-        stream.stage = IDLE;
+        stream.stage = Stage::Idle;
         stream.mark(time)
     }
 
@@ -121,16 +121,11 @@ impl Stream {
 
     // "G, going on."
     pub(crate) fn go_on(self, seed: &mut u64) -> Made {
-        let stage = self.stage;
-        if stage == DATA {
-            return self.on_data(seed);
+        match self.stage {
+            Stage::Data => self.on_data(seed),
+            Stage::Status => self.on_status(seed),
+            Stage::Full => self.on_full(seed),
+            Stage::Idle => self.new_command(seed),
         }
-        if stage == STATUS {
-            return self.on_status(seed);
-        }
-        if stage == FULL {
-            return self.on_full(seed);
-        }
-        self.new_command(seed)
     }
 }

@@ -13,10 +13,8 @@ const DIGITS: [u8; 16] = *b"0123456789ABCDEF";
 fn capitals(number: u64) -> [u8; 16] {
     let mut text = [0u8; 16];
     let mut rest = number;
-    let mut i = 16;
-    while i > 0 {
-        i -= 1;
-        text[i] = DIGITS[(rest % 16) as usize];
+    for digit in text.iter_mut().rev() {
+        *digit = DIGITS[(rest % 16) as usize];
         rest >>= 4;
     }
     text

@@ -77,7 +77,7 @@ impl Stream {
             return time;
         }
         let less = 1 + draw(seed, 300);
-        if less < self.now { self.now - less } else { 0 }
+        self.now.saturating_sub(less)
     }
 
     // Gives the record of that time, with a field out of range where x asks it.

@@ -1,7 +1,7 @@
 // S, the set-ups of the mixed part (bench/soak.h).
 use crate::calls::{Call, SettingUp};
 use crate::draws::{draw, draw_short, next};
-use crate::streams::{IDLE, Made, Stream};
+use crate::streams::{Made, Stage, Stream};
 use words::{CommandWord, Moment};
 
 // the masks of a right set-up
@@ -49,7 +49,7 @@ impl Stream {
         stream.address = address;
         stream.bus = 0;
         stream.command = command;
-        stream.stage = IDLE;
+        stream.stage = Stage::Idle;
         stream.now = now;
         stream.from = now;
         stream

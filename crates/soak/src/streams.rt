@@ -6,20 +6,20 @@ use records::WordRecord;
 use terminal::Event;
 use words::{CommandWord, Moment};
 
-// the stages
-pub(crate) const IDLE: u8 = 0;
-
-pub(crate) const DATA: u8 = 1;
-
-pub(crate) const STATUS: u8 = 2;
-
-pub(crate) const FULL: u8 = 3;
+// "idle, data, status or full"
+#[derive(Clone, Copy)]
+pub(crate) enum Stage {
+    Idle,
+    Data,
+    Status,
+    Full,
+}
 
 // "Variables: address, now, from, bus, command, partner, left, first, and a stage"; before them the fixed part, and whether the mixed
 // part's first set-up has been made.
 #[derive(Clone, Copy)]
 pub(crate) struct Stream {
-    pub(crate) sweep: Sweep,
+    pub(crate) sweep: Option<Sweep>,
     pub(crate) started: bool,
     pub(crate) now: u64,
     pub(crate) from: u64,
@@ -29,7 +29,7 @@ pub(crate) struct Stream {
     pub(crate) partner: u16,
     pub(crate) left: u16,
     pub(crate) first: bool,
-    pub(crate) stage: u8,
+    pub(crate) stage: Stage,
 }
 
 // A call, and the stream after it.
@@ -71,7 +71,7 @@ fn may_spoil(seed: &mut u64, heard: WordRecord) -> WordRecord {
 impl Stream {
     pub(crate) fn start() -> Stream {
         Stream {
-            sweep: Sweep::start(),
+            sweep: Some(Sweep::start()),
             started: false,
             now: 0,
             from: 0,
@@ -81,19 +81,19 @@ impl Stream {
             partner: 0,
             left: 0,
             first: false,
-            stage: IDLE,
+            stage: Stage::Idle,
         }
     }
 
     // "later(x) = the greater of now and x."
     pub(crate) fn later(self, time: u64) -> u64 {
-        if time > self.now { time } else { self.now }
+        time.max(self.now)
     }
 
     // "Whenever .. has made its event and the event's time is below END, now becomes that time".
     fn reached(self, time: u64) -> Stream {
         let mut next = self;
-        if time < Moment::END.0 {
+        if Moment(time).on_clock() {
             next.now = time;
         }
         next
@@ -138,8 +138,7 @@ impl Stream {
     }
 
     // Gives the next call of the fixed part.
-    fn next_fixed(self) -> Made {
-        let sweep = self.sweep;
+    fn next_fixed(self, sweep: Sweep) -> Made {
         let swept = sweep.next();
         let after = swept.sweep;
         let call = swept.call;
@@ -150,8 +149,8 @@ impl Stream {
 
     // Gives the next call.
     pub(crate) fn next(self, seed: &mut u64) -> Made {
-        if !self.sweep.over {
-            return self.next_fixed();
+        if let Some(sweep) = self.sweep {
+            return self.next_fixed(sweep);
         }
         if self.started {
             self.choose(seed)

@@ -1,6 +1,7 @@
 // The checksum over every outcome (bench/soak.h, CHECKSUM): "FNV-1a, 64 bits". Each function gives the sum with more added.
 use crate::draws::times;
-use terminal::{Answer, NextMoment, SpacingFault, Terminal};
+use terminal::{Answer, SpacingFault, Terminal};
+use words::Moment;
 
 // "h starts as CBF29CE484222325h"
 pub(crate) const START: u64 = 0xCBF2_9CE4_8422_2325;
@@ -39,23 +40,19 @@ fn bit(on: bool, weight: u8) -> u8 {
 
 fn add_words(sum: u64, words: [u16; 32], count: u16) -> u64 {
     let mut next = sum;
-    let mut i: u16 = 0;
-    while i < count {
-        if i < 32 {
-            next = add_short(next, words[i as usize]);
-        }
-        i += 1;
+    for word in words.iter().take(count as usize) {
+        next = add_short(next, *word);
     }
     next
 }
 
 // 2: "1 byte, 1 if it carries an answer, plus 2 if it cut a sending; then for an answer: bus 1, due time 8, status 2, number of data words
 // 1, each word 2 bytes"
-pub(crate) fn add_answer(sum: u64, answer: Answer, cut: bool) -> u64 {
-    let carried = add_byte(sum, bit(answer.given, 1) | bit(cut, 2));
-    if !answer.given {
+pub(crate) fn add_answer(sum: u64, answer: Option<Answer>, cut: bool) -> u64 {
+    let carried = add_byte(sum, bit(answer.is_some(), 1) | bit(cut, 2));
+    let Some(answer) = answer else {
         return carried;
-    }
+    };
     let bus = add_byte(carried, answer.bus);
     let due = add_long(bus, answer.due.0);
     let status = add_short(due, answer.status.0);
@@ -65,11 +62,11 @@ pub(crate) fn add_answer(sum: u64, answer: Answer, cut: bool) -> u64 {
 }
 
 // "16 last spacing fault overlapping + 32 last spacing fault separated"
-fn spacing_bits(fault: SpacingFault) -> u8 {
+fn spacing_bits(fault: Option<SpacingFault>) -> u8 {
     match fault {
-        SpacingFault::None => 0,
-        SpacingFault::Overlapping => 16,
-        SpacingFault::Separated => 32,
+        None => 0,
+        Some(SpacingFault::Overlapping) => 16,
+        Some(SpacingFault::Separated) => 32,
     }
 }
 
@@ -82,10 +79,10 @@ fn flags(terminal: Terminal) -> u8 {
         | spacing_bits(terminal.last_spacing_fault())
 }
 
-fn add_next(sum: u64, next: NextMoment) -> u64 {
+fn add_next(sum: u64, next: Option<Moment>) -> u64 {
     match next {
-        NextMoment::At(moment) => add_long(sum, moment.0),
-        NextMoment::Never => add_long(sum, NEVER),
+        Some(moment) => add_long(sum, moment.0),
+        None => add_long(sum, NEVER),
     }
 }
 
@@ -102,10 +99,8 @@ pub(crate) fn add_state(sum: u64, terminal: Terminal) -> u64 {
 // Says whether the receive table differs from its copy. Most often it does not, and this loop is the quicker one.
 fn is_changed(receive: &[u16; 2048], copy: &[u16; 1024]) -> bool {
     let mut changed: u16 = 0;
-    let mut i = 0;
-    while i < 1024 {
-        changed |= receive[i] ^ copy[i];
-        i += 1;
+    for (word, old) in receive.iter().zip(copy) {
+        changed |= *word ^ *old;
     }
     changed != 0
 }
@@ -117,14 +112,12 @@ pub(crate) fn add_received(sum: u64, receive: &[u16; 2048], copy: &mut [u16; 102
         return sum;
     }
     let mut next = sum;
-    let mut i: u16 = 0;
-    while i < 1024 {
-        let word = receive[i as usize];
-        if word != copy[i as usize] {
-            next = add_short(add_short(next, i), word);
-            copy[i as usize] = word;
+    for (i, old) in copy.iter_mut().enumerate() {
+        let word = receive[i];
+        if word != *old {
+            next = add_short(add_short(next, i as u16), word);
+            *old = word;
         }
-        i += 1;
     }
     next
 }

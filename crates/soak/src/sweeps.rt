@@ -5,28 +5,23 @@ use std::num::wrapping_add_u16;
 use terminal::Event;
 use words::{CommandWord, Moment};
 
-// Where the part stands: its word c, how many of that word's calls are made, and whether all words are through.
+// Where the part stands: its word c, and how many of that word's calls are made.
 #[derive(Clone, Copy)]
 pub(crate) struct Sweep {
-    pub(crate) over: bool,
     pub(crate) word: u16,
     pub(crate) step: u16,
 }
 
-// A call, and the sweep after it.
+// A call, and the sweep after it, or none where all words are through.
 #[derive(Clone, Copy)]
 pub(crate) struct Swept {
     pub(crate) call: Call,
-    pub(crate) sweep: Sweep,
+    pub(crate) sweep: Option<Sweep>,
 }
 
 impl Sweep {
     pub(crate) fn start() -> Sweep {
-        Sweep {
-            over: false,
-            word: 0,
-            step: 0,
-        }
+        Sweep { word: 0, step: 0 }
     }
 
     // "n = awaited(c) if the address of c is 5 or 31, else 0."
@@ -42,17 +37,25 @@ impl Sweep {
     fn stepped(self, call: Call) -> Swept {
         let mut sweep = self;
         sweep.step = wrapping_add_u16(self.step, 1);
-        Swept { call, sweep }
+        Swept {
+            call,
+            sweep: Some(sweep),
+        }
     }
 
-    // Gives the call, and the sweep at the next word.
+    // Gives the call, and the sweep at the next word, if there is one.
     fn passed(self, call: Call) -> Swept {
+        if self.word == u16::MAX {
+            return Swept { call, sweep: None };
+        }
         let sweep = Sweep {
-            over: self.word == 65535,
-            word: wrapping_add_u16(self.word, 1),
+            word: self.word + 1,
             step: 0,
         };
-        Swept { call, sweep }
+        Swept {
+            call,
+            sweep: Some(sweep),
+        }
     }
 
     // "a record of time 1000 + 200k, bus 0, sync 1, word (c + 257k) mod 65536"

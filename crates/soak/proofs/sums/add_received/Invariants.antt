@@ -1,9 +1,0 @@
--- `add_received` is safe and ends: the measure is what is left of the 1,024 places. Assumes nothing.
-use Rattle.std.proofs.Common.{◌-◌}
-use Rattle.soak.proofs.sums.add_received.Given as goal
-
-abbrev pub invariant-loop-i : goal.invariant-loop-i
-invariant-loop-i l = Unit {0}
-
-abbrev pub decreases-loop-i : goal.decreases-loop-i
-decreases-loop-i l = 1024 - l.i
