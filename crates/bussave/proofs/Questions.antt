@@ -1,18 +1,10 @@
 -- Questions to the machine: each settles a byte or more, so that asking comes to an end. Assumes nothing.
-use Rattle.std.proofs.Common.{◌≡◌, ℕ, ◌+◌, ◌-◌, ◌<◌, ◌≤◌, Bool, true, false, not, ◌&&◌, List, length, take, drop, sym, ap, ◌∙◌, subst, true≢false, arith, length-take}
+use Rattle.std.proofs.Common.{◌≡◌, ℕ, ◌<◌, ◌≤◌, false, List, length, sym, ap, ◌∙◌, subst, arith}
 use Rattle.windows.specs.Windows.{count_of}
 use Rattle.salvage.specs.Machine.{fed_of, room_of, asked_of, is_settled_of}
 use Rattle.salvage.specs.declared.salvages.Salvage.{Salvage}
 use Rattle.salvage.specs.declared.salvages.Fed.{Fed}
-use Rattle.salvage.specs.declared.salvages.Progress.{Progress}
 use Rattle.salvage.proofs.Sessions.{asks_on, inside_asked, inside_fed, taken_few}
-
-pub not_settled : (s : Salvage) (b f : Bool) → b ≡ is_settled_of s → (not b && not f) ≡ true → is_settled_of s ≡ false
-not_settled s true f e h = absurd (true≢false (sym h))
-not_settled s false f e h = sym e
-
-pub asked_salvage : (s : Salvage) (room : List ℕ) (p : Progress) → p ≡ asked_of s room → p.salvage ≡ (asked_of s room).salvage
-asked_salvage s room p e = ap (λ (k : Progress). k.salvage) e
 
 module _ (s s' : Salvage) (room : List ℕ) (e : s' ≡ (asked_of s room).salvage) (l : s.window.to ≤ length room) where
   pub asked_less : is_settled_of s ≡ false → count_of s'.window < count_of s.window
@@ -27,8 +19,6 @@ fed_inside s room room' chunk f s' e r h =
     subst (λ (k : Salvage). k.window.to ≤ length room') (sym (h ∙ ap (λ (k : Fed). k.salvage) e))
     (subst (λ (k : List ℕ). (fed_of s room chunk).salvage.window.to ≤ length k) (sym r) (inside_fed s room chunk))
 
--- and no more is taken than there is from a place on
-pub fed_few : (s : Salvage) (room bytes : List ℕ) (at : ℕ) (f : Fed) → at ≤ length bytes → f ≡ fed_of s room (take (length bytes - at) (drop at bytes)) → at + f.taken ≤ length bytes
-fed_few s room bytes at f l e =
-    let rest = take (length bytes - at) (drop at bytes) in
-    omega (arith, ap (λ (k : Fed). k.taken) e, taken_few s room rest, length-take (length bytes - at) (drop at bytes))
+-- and no more is taken than there is
+pub fed_few : (s : Salvage) (room chunk : List ℕ) (f : Fed) → f ≡ fed_of s room chunk → f.taken ≤ length chunk
+fed_few s room chunk f e = omega (arith, ap (λ (k : Fed). k.taken) e, taken_few s room chunk)

@@ -10,8 +10,8 @@ mod strays;
 
 use complaints::{PROGRAM, show_usage};
 use lines::{NAME_BYTES, is_dash, remark};
-use runs::save;
-use status::{Begun, Status, ask, asks_help, begin, count_arguments, is_at, is_name, is_option};
+use runs::{Names, save};
+use status::{Status, ask, asks_help, count_arguments, is_at, is_name, is_option};
 use std::num::wrapping_add_usize;
 
 // Says whether an argument may be a name where no `--` stands before it. Where it may not, standard error says so.
@@ -39,10 +39,14 @@ fn save_named(rt: HostRuntime, first: usize, behind: bool) -> Status {
     if !is_name(&PROGRAM, b"CLEAN", to) {
         return Status::Usage;
     }
-    if !behind && !(is_plain(&damaged[..from.length]) && is_plain(&clean[..to.length])) {
+    let names = Names {
+        damaged: &damaged[..from.unwrap_or(0)],
+        clean: &clean[..to.unwrap_or(0)],
+    };
+    if !behind && !(is_plain(names.damaged) && is_plain(names.clean)) {
         return Status::Usage;
     }
-    if is_dash(&clean[..to.length]) {
+    if is_dash(names.clean) {
         remark(
             &PROGRAM,
             b"CLEAN",
@@ -50,7 +54,7 @@ fn save_named(rt: HostRuntime, first: usize, behind: bool) -> Status {
         );
         return Status::Usage;
     }
-    save(rt, &damaged[..from.length], &clean[..to.length])
+    save(rt, names)
 }
 
 // Does what the arguments from a place on ask, and gives how that ended.
@@ -71,8 +75,5 @@ fn run(rt: HostRuntime, first: usize) -> Status {
 }
 
 fn main(rt: HostRuntime) {
-    match begin(rt, &PROGRAM) {
-        Begun::On(front) => front.end(rt, &PROGRAM, run(rt, front.first)),
-        Begun::Over(front, status) => front.end(rt, &PROGRAM, status),
-    }
+    status::run(rt, &PROGRAM, |first| run(rt, first));
 }

@@ -4,8 +4,8 @@ ghost use Rattle.std.specs.Prelude.{◌≡◌, ◌≤◌, true, false, length};
 ghost use Rattle.salvage.specs.Machine.{asked_of, is_settled_of};
 
 use crate::strays::Strays;
-use lines::{Block, Sink, Source, between};
-use salvage::Salvage;
+use lines::{Block, LINE_MOST, Sink, Source, between};
+use salvage::{Run, Salvage};
 use std::num::{wrapping_add_u64, wrapping_add_usize};
 use texts::put_run;
 
@@ -26,6 +26,14 @@ pub(crate) struct Saving {
     pub(crate) strays: Strays,
 }
 
+// Puts the line of a run that has ended, where one has. Room for it is asked all the same.
+pub(crate) fn put_ended(sink: Sink, block: &mut Block, run: Option<Run>) -> Sink {
+    match run {
+        Some(run) => put_run(sink, block, run),
+        None => sink.with_room(block, LINE_MOST),
+    }
+}
+
 // Puts bytes, unless something has failed before.
 fn put_unless(failed: bool, sink: Sink, block: &mut Block, bytes: &[u8]) -> Sink {
     if failed {
@@ -37,23 +45,19 @@ fn put_unless(failed: bool, sink: Sink, block: &mut Block, bytes: &[u8]) -> Sink
 impl Saving {
     // Says whether a write has failed. Nothing is written after it.
     fn has_failed(self) -> bool {
-        self.listed.failed | self.clean.failed
+        self.listed.failure.is_some() | self.clean.failure.is_some()
     }
 
     // Says whether there are bytes to settle.
     fn is_unsettled(self) -> bool
         ensures unsettled { result ≡ true → is_settled_of self.salvage ≡ false }
     {
-        let salvage = self.salvage;
-        !salvage.is_settled() & !self.has_failed()
+        !self.salvage.is_settled() & !self.has_failed()
     }
 
     // Says whether there is a chunk to take.
     fn is_reading(self) -> bool {
-        match self.got {
-            Ok(count) => (count > 0) & !self.has_failed(),
-            Err(_) => false,
-        }
+        self.got.is_ok_and(|count| count > 0) & !self.has_failed()
     }
 
     // The same saving with the machine fed.
@@ -69,27 +73,19 @@ impl Saving {
     fn ask(self, room: &[u8], listing: &mut Block, saved: &mut Block) -> Saving
         ensures salvage { result.salvage ≡ (asked_of self.salvage room.now).salvage }
     {
-        let salvage = self.salvage;
-        let progress = salvage.ask(room);
-        let after = progress.salvage;
-        let run = progress.run;
+        let progress = self.salvage.ask(room);
         let bytes = between(
             room,
             progress.from,
             wrapping_add_usize(progress.from, progress.kept),
         );
-        let listed = self.listed;
-        let clean = self.clean;
-        let after_run = put_run(listed, listing, run);
-        let strays = self.strays;
-        Saving {
-            got: self.got,
-            salvage: after,
-            listed: after_run,
-            clean: put_unless(after_run.failed, clean, saved, bytes),
-            read: self.read,
-            strays: strays.after(room, progress),
-        }
+        let listed = put_ended(self.listed, listing, progress.run);
+        let mut next = self;
+        next.salvage = progress.salvage;
+        next.listed = listed;
+        next.clean = put_unless(listed.failure.is_some(), self.clean, saved, bytes);
+        next.strays = self.strays.after(room, progress);
+        next
     }
 
     // Asks until all is settled. It ends since each question settles a byte or more (`goes_on`).
@@ -106,17 +102,14 @@ impl Saving {
     // Takes the bytes of a chunk. A room that is full would take none; as it is settled before, it has place for a chunk.
     fn take(self, bytes: &[u8], room: &mut Room, listing: &mut Block, saved: &mut Block) -> Saving {
         let mut next = self;
-        let mut at = 0;
-        while at < bytes.len() {
-            let salvage = next.salvage;
-            let fed = salvage.feed(room, &bytes[at..]);
-            let taken = fed.taken;
-            if taken == 0 {
+        let mut rest = bytes;
+        while !rest.is_empty() {
+            let fed = next.salvage.feed(room, rest);
+            if fed.taken == 0 {
                 return next;
             }
-            at += taken;
-            let after = fed.salvage;
-            next = next.with(after).settle(room, listing, saved);
+            rest = &rest[fed.taken..];
+            next = next.with(fed.salvage).settle(room, listing, saved);
         }
         next
     }
@@ -151,10 +144,11 @@ impl Saving {
         saved: &mut Block,
     ) -> Saving {
         let mut next = self;
-        let mut turns = u64::MAX;
-        while turns > 0 && next.is_reading() {
+        for _ in 0..u64::MAX {
+            if !next.is_reading() {
+                return next;
+            }
             next = next.turn(input, chunk, room, listing, saved);
-            turns -= 1;
         }
         next
     }

@@ -2,8 +2,8 @@
 // know, since nothing is wrong with them but a silence of more than ten seconds, or a time before them that is too late. Refusals: none.
 use crate::complaints::PROGRAM;
 use lines::{Block, Sink, Target, begin_complaint, between};
-use records::{LAST_BUS, RECORD_BYTES, Read, read_record};
-use salvage::{Last, Progress};
+use records::{LAST_BUS, RECORD_BYTES, read_record};
+use salvage::Progress;
 use std::num::{wrapping_add_u64, wrapping_add_usize, wrapping_sub_u64};
 use words::Moment;
 
@@ -18,25 +18,26 @@ pub(crate) struct Kind {
 // not looked at.
 #[derive(Clone, Copy)]
 pub(crate) struct Strays {
-    late: Kind,
-    early: Kind,
+    late: Option<Kind>,
+    early: Option<Kind>,
     reach: u64,
 }
 
-impl Kind {
-    // Gives the kind with one more, at a place.
-    fn with(self, place: u64) -> Kind {
-        Kind {
-            count: wrapping_add_u64(self.count, 1),
-            first: if self.count == 0 { place } else { self.first },
-        }
-    }
+// Gives the kind with one more, at a place.
+fn one_more(kind: Option<Kind>, place: u64) -> Option<Kind> {
+    let Some(kind) = kind else {
+        return Some(Kind {
+            count: 1,
+            first: place,
+        });
+    };
+    let count = wrapping_add_u64(kind.count, 1);
+    Some(Kind { count, ..kind })
+}
 
-    // Says how many there are and why they were skipped, where there is any.
+impl Kind {
+    // Says how many there are and why they were skipped.
     fn tell(self, name: &[u8], why: &[u8]) {
-        if self.count == 0 {
-            return;
-        }
         let mut block = io::large_buffer();
         begin_complaint(&PROGRAM, name);
         let counted = put_counted(Sink::to(Target::Errors), &mut block, self.count);
@@ -58,7 +59,7 @@ fn put_counted(sink: Sink, block: &mut Block, count: u64) -> Sink {
     put_grouped(begun, block, count).put_text(block, b" whole records")
 }
 
-// Gives a digit of a number.
+// Gives a digit of a number: nothing in the library writes numbers in groups.
 fn digit(number: u64) -> u8 {
     b'0' + (number % 10) as u8
 }
@@ -95,8 +96,8 @@ impl Strays {
     // Gives none of either kind.
     pub(crate) fn none() -> Strays {
         Strays {
-            late: Kind { count: 0, first: 0 },
-            early: Kind { count: 0, first: 0 },
+            late: None,
+            early: None,
             reach: 0,
         }
     }
@@ -106,35 +107,26 @@ impl Strays {
         if place < self.reach {
             return self;
         }
-        let Read::Record(heard) = read_record(bytes, LAST_BUS) else {
+        let Ok(heard) = read_record(bytes, LAST_BUS) else {
             return self;
         };
-        let late = self.late;
-        let early = self.early;
-        let reach = wrapping_add_u64(place, RECORD_BYTES as u64);
-        if heard.time.0 < last.0 {
-            return Strays {
-                late,
-                early: early.with(place),
-                reach,
-            };
+        let mut next = self;
+        next.reach = wrapping_add_u64(place, RECORD_BYTES as u64);
+        if heard.time < last {
+            next.early = one_more(self.early, place);
+        } else {
+            next.late = one_more(self.late, place);
         }
-        Strays {
-            late: late.with(place),
-            early,
-            reach,
-        }
+        next
     }
 
     // Gives the strays with those among the bytes of the room from a place up to another, all of which were skipped. The room's own first byte has the place `base` in
     // the damaged file.
     fn with_all(self, room: &[u8], from: usize, to: usize, base: u64, last: Moment) -> Strays {
         let mut next = self;
-        let mut at = from;
-        while at < to {
+        for at in from..to {
             let bytes = between(room, at, room.len());
             next = next.with(bytes, wrapping_add_u64(base, at as u64), last);
-            at += 1;
         }
         next
     }
@@ -144,13 +136,11 @@ impl Strays {
         if progress.strays == 0 {
             return self;
         }
-        let salvage = progress.salvage;
-        let settled = salvage.settled;
-        let last = settled.last;
-        let Last::At(time) = last else {
+        let settled = progress.salvage.settled;
+        let Some(time) = settled.last else {
             return self;
         };
-        let to = salvage.window.from;
+        let to = progress.salvage.window.from;
         let from = wrapping_add_usize(progress.from, progress.kept);
         let end = wrapping_add_u64(settled.run.place, settled.run.length);
         self.with_all(room, from, to, wrapping_sub_u64(end, to as u64), time)
@@ -158,9 +148,11 @@ impl Strays {
 
     // Says of both kinds how many were skipped.
     pub(crate) fn tell(self, name: &[u8]) {
-        let late = self.late;
-        late.tell(name, b"more than 10 s after the one before");
-        let early = self.early;
-        early.tell(name, b"earlier than the one before");
+        if let Some(late) = self.late {
+            late.tell(name, b"more than 10 s after the one before");
+        }
+        if let Some(early) = self.early {
+            early.tell(name, b"earlier than the one before");
+        }
     }
 }

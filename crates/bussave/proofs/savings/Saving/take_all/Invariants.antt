@@ -1,8 +1,0 @@
--- `take_all` is safe and ends: nothing has to hold from chunk to chunk, and the measure is the number of turns that are left. Assumes nothing.
-use Rattle.bussave.proofs.savings.Saving.take_all.Given as goal
-
-abbrev pub invariant-loop-turns : goal.invariant-loop-turns
-invariant-loop-turns l = Unit {0}
-
-abbrev pub decreases-loop-turns : goal.decreases-loop-turns
-decreases-loop-turns l = l.turns
