@@ -1,7 +1,7 @@
 -- The two halves agree: agrees, agrees_illegal, agrees_between, agrees_broadcast, agrees_broadcast_between. Assumes nothing.
 use mathlib.Core.Path.{◌≡◌, refl, sym, ap, subst, ◌∙◌}
 use Prim.Native.Nat.{ℕ, ◌+◌, ◌*◌, ◌^◌, ◌≤◌}
-use mathlib.Core.Bool.{true, false, cond}
+use mathlib.Core.Bool.{true, false}
 use mathlib.Core.List.{List, [], ◌∷◌, ◌++◌, append-nil}
 use native.Mathlib.Omega.{arith}
 use lib.Dec.{eqb}
@@ -22,13 +22,14 @@ use Rattle.history.specs.States.{Waiting, Sound}
 use Rattle.history.proofs.Tests.{true≢, cond_same, or_false, or_cases}
 use Rattle.history.proofs.Phases.{due_under_way}
 use Rattle.history.proofs.Reached.{reachable}
-use Rattle.verdict.specs.Plans.{is_single, is_possible, plan_refusal, is_unjudged, part_of, back_of, expected_of}
-use Rattle.verdict.specs.Numbers.{good, message_error}
+use Rattle.verdict.specs.Plans.{is_single, is_possible, plan_checks, plan_refusal, is_unjudged, part_of, back_of, expected_of}
+use Rattle.std.specs.Prelude.{Option, Some, unwrap_or, Ok}
+use Rattle.verdict.specs.declared.verdicts.Verdict.{Verdict}
+use Rattle.verdict.specs.declared.verdicts.Verdict.TheVariants as verdict
 use Rattle.verdict.specs.Facts.{listened_least, end_of}
-use Rattle.verdict.specs.Verdicts.{returned_from, returned_of, finding, finding_over, finding_of, verdict_of, judged_of}
+use Rattle.verdict.specs.Verdicts.{returned_from, returned_of, finding, finding_over, finding_of, verdict_of, judged_with, judged_of}
 use Rattle.verdict.specs.declared.plans.Plan.{Plan}
 use Rattle.verdict.specs.declared.judges.Finding.{Finding}
-use Rattle.verdict.specs.declared.judges.Judged.TheVariants as judged
 use Rattle.verdict.proofs.Findings.{verdict_over, verdict_of_lem}
 use Rattle.verdict.proofs.Refusals.{plan_accepted}
 use Rattle.agreement.specs.Agreement.{status_heard, answer_heard, plan_for, Accepted, shown_by, JudgedAs, Agrees, AgreesAfterAnyPast, AgreesIllegal, plan_between, Sent, AgreesBetween, AgreesBetweenAfterAnyPast, AgreesBroadcast, AgreesBroadcastBetween}
@@ -97,7 +98,6 @@ module _ (s : State) (sound : Sound s) (t : ℕ) (transmit : List ℕ) (due : is
 
   abbrev pub answer : Answer
   answer = record {
-    given = true;
     bus = s.message.bus;
     due = record { 0 = s.message.last.0 + due_distance };
     status = record { 0 = status_now s };
@@ -106,12 +106,12 @@ module _ (s : State) (sound : Sound s) (t : ℕ) (transmit : List ℕ) (due : is
   }
 
   -- it is the one that is given
-  pub answer_given : rule1_answer s t transmit ≡ answer
+  pub answer_given : rule1_answer s t transmit ≡ Some answer
   unfolding rule1_answer answer_of
   answer_given = rw (due, shown)
 
   -- to an illegal command it shows message error
-  pub error_shown : is_legal s.setup w ≡ false → is_unjudged w ≡ false → shown_by s answer ≡ message_error
+  pub error_shown : is_legal s.setup w ≡ false → is_unjudged w ≡ false → shown_by s answer ≡ verdict.MessageError
   error_shown illegal flags = error_settled s w illegal flags (status_heard answer) refl
 
   -- its words
@@ -134,7 +134,10 @@ module _ (s : State) (sound : Sound s) (t : ℕ) (transmit : List ℕ) (due : is
       → verdict_over (part_of w) s.message.last.0 until (answer_heard answer) ≡ shown_by s answer
   error_judged illegal flags until =
       status_verdict w s.message.bus s.message.last.0 until (status_now s) _ from_own
-      (λ clear. absurd (omega (arith, clear, error_shown illegal flags)))
+      (λ clear.
+      let other : ◌≡◌ {A = Verdict} verdict.Good verdict.MessageError =
+      sym (ap (λ (o : Option Verdict). unwrap_or o verdict.Good) clear) ∙ error_shown illegal flags in
+      absurd (cc))
 
   module _ (until : Moment) (clock : on_clock until.0 ≡ true) where
     -- the words are taken, where the last comes before Q
@@ -150,25 +153,25 @@ module _ (s : State) (sound : Sound s) (t : ℕ) (transmit : List ℕ) (due : is
         }
 
     legal_judged : length transmit ≡ 1024 → is_legal s.setup w ≡ true
-        → (rule1_answer s t transmit).due.0 + word_ticks * (rule1_answer s t transmit).count + listened_least ≤ until.0
-        → JudgedAs (plan_for s until) (answer_heard (rule1_answer s t transmit)) (shown_by s (rule1_answer s t transmit))
-    legal_judged sized legal listened =
+        → answer.due.0 + word_ticks * answer.count + listened_least ≤ until.0
+        → JudgedAs (plan_for s until) (answer_heard answer) (shown_by s answer)
+    legal_judged sized legal enough =
         let few : length words ≤ answer.count = simp length-take (omega arith) in
-        let enough : answer.due.0 + word_ticks * answer.count + listened_least ≤ until.0 = rw answer_given at listened in
-        rw answer_given
         (judged_as (legal_single s.setup w legal) (omega (arith, few, enough)) (answer_judged sized legal until.0 (omega (arith, few, enough))))
 
-    illegal_judged : is_single w ≡ true → is_legal s.setup w ≡ false → is_unjudged w ≡ false → (rule1_answer s t transmit).due.0 ≤ until.0
-        → JudgedAs (plan_for s until) (answer_heard (rule1_answer s t transmit)) message_error
-    illegal_judged single illegal flags heard =
+    illegal_judged : is_single w ≡ true → is_legal s.setup w ≡ false → is_unjudged w ≡ false → answer.due.0 ≤ until.0
+        → JudgedAs (plan_for s until) (answer_heard answer) verdict.MessageError
+    illegal_judged single illegal flags in_time_lem =
         let none : words ≡ [] = error_alone illegal in
-        let in_time_lem : answer.due.0 ≤ until.0 = rw answer_given at heard in
-        rw answer_given
         (subst (JudgedAs (plan_for s until) (answer_heard answer)) (error_shown illegal flags)
         (judged_as single (omega (arith, ap length none, in_time_lem)) (error_judged illegal flags until.0)))
 
 pub agrees : Agrees
-agrees s sound t transmit sized due legal shown until clock = legal_judged s sound t transmit due shown until clock sized legal
+agrees s sound t transmit sized due legal shown = (
+  answer s sound t transmit due shown,
+  answer_given s sound t transmit due shown,
+  λ until clock. legal_judged s sound t transmit due shown until clock sized legal,
+)
 
 -- ---- any past
 
@@ -178,8 +181,11 @@ agrees_after_any_past past = agrees _ (reachable past)
 -- ---- an illegal command
 
 pub agrees_illegal : AgreesIllegal
-agrees_illegal s sound t transmit due single illegal flags shown until clock =
-    illegal_judged s sound t transmit due shown until clock single illegal flags
+agrees_illegal s sound t transmit due single illegal flags shown = (
+  answer s sound t transmit due shown,
+  answer_given s sound t transmit due shown,
+  λ until clock. illegal_judged s sound t transmit due shown until clock single illegal flags,
+)
 
 -- ---- between terminals
 
@@ -221,20 +227,21 @@ module _ (s : State) (sound : Sound s) (t : ℕ) (transmit : List ℕ) (due : is
       }
 
   -- to an illegal command it shows message error
-  pub between_error : is_legal s.setup s.message.command.0 ≡ false → shown_by s a ≡ message_error
+  pub between_error : is_legal s.setup s.message.command.0 ≡ false → shown_by s a ≡ verdict.MessageError
   unfolding is_unjudged
   between_error illegal =
       error_shown s sound t transmit due shown illegal (rw (pair_parts s.message.command.0 second.word sent.pair).plain)
 
 pub agrees_between : AgreesBetween
-agrees_between s sound t transmit due shown second status ds sent until clock listened =
-    let given = answer_given s sound t transmit due shown in
-    let enough : (answer s sound t transmit due shown).due.0 + listened_least ≤ until.0 = rw given at listened in
-    rw given (
-      between_so s sound t transmit due shown second status ds sent until clock enough,
-      ap (λ (r : Reply). r.count) (between_alone s sound t transmit due shown second status ds sent),
-      between_error s sound t transmit due shown second status ds sent,
-    )
+agrees_between s sound t transmit due shown = (
+  answer s sound t transmit due shown,
+  answer_given s sound t transmit due shown,
+  λ second status ds sent until clock enough. (
+    between_so s sound t transmit due shown second status ds sent until clock enough,
+    ap (λ (r : Reply). r.count) (between_alone s sound t transmit due shown second status ds sent),
+    between_error s sound t transmit due shown second status ds sent,
+  ),
+)
 
 pub agrees_between_after_any_past : AgreesBetweenAfterAnyPast
 agrees_between_after_any_past past = agrees_between _ (reachable past)
@@ -243,7 +250,7 @@ agrees_between_after_any_past past = agrees_between _ (reachable past)
 
 -- nothing heard is judged good, after enough time
 none_good : (s : State) (until : Moment) → is_broadcast s.message.command.0 ≡ true → s.message.last.0 + listened_least ≤ until.0
-    → finding_of (plan_for s until) [] ≡ finding good 0
+    → finding_of (plan_for s until) [] ≡ finding verdict.Good 0
 unfolding finding_of finding_over expected_of back_of end_of
 none_good s until all listened = rw (all, le-ltb (since_of s.message.last.0 until.0) listened_least (omega arith))
 
@@ -256,10 +263,7 @@ pub agrees_broadcast : AgreesBroadcast
 unfolding judged_of returned_of returned_from
 agrees_broadcast s t transmit all until listened = record {
   silent = none_answered s t transmit all;
-  judged = ap
-      (λ (f : Finding).
-      cond (eqb (plan_refusal (plan_for s until)) not_refused) (judged.Given f) (judged.Refused (record { 0 = plan_refusal (plan_for s until) })))
-      (none_good s until all listened);
+  judged = ap (λ (f : Finding). judged_with (plan_checks (plan_for s until)) (Ok f)) (none_good s until all listened);
   unrefused = λ sound due single clock. single_taken s sound t due until single clock (omega (arith, listened));
 }
 
@@ -267,7 +271,7 @@ agrees_broadcast s t transmit all until listened = record {
 all_good : (s : State) (second status : WordRecord) (ds : List WordRecord) → Sent s second status ds → (until : Moment)
     → is_broadcast s.message.command.0 ≡ true
     → s.message.last.0 + listened_least ≤ until.0
-    → verdict_of (plan_between s second until) (status ∷ ds) ≡ good
+    → verdict_of (plan_between s second until) (status ∷ ds) ≡ verdict.Good
 unfolding expected_of back_of finding_over end_of
 all_good s second status ds sent until all listened =
     verdict_of_lem (plan_between s second until) (part_of second.word ++ []) (rw all) (status ∷ ds)

@@ -10,13 +10,13 @@ use borrow.Author.Tests.{eq-eqb, eqb-true, eqb-false, ltb-false, not-false}
 use Rattle.words.specs.Words.{no_response_distance, address_of, count_of, awaited_of, words_of, is_broadcast, is_spaced}
 use Rattle.words.specs.declared.times.Moment.{Moment}
 use Rattle.records.specs.declared.forms.WordRecord.{WordRecord}
-use Rattle.history.proofs.Tests.{cond_cases, and_left, or_cases}
+use Rattle.history.proofs.Tests.{none≢, some_same, cond_cases, and_left, or_cases}
 use Rattle.verdict.specs.Plans.{is_pair, is_possible, part_of, sent_of, back_of, expected_of}
-use Rattle.verdict.specs.Numbers.{good}
+use Rattle.std.specs.Prelude.{Some, None}
+use Rattle.verdict.specs.declared.verdicts.Verdict.TheVariants as verdict
 use Rattle.verdict.specs.Verdicts.{verdict_of}
 use Rattle.verdict.specs.Theorems.{Good, status, word}
 use Rattle.verdict.specs.declared.plans.Plan.{Plan}
-use Rattle.verdict.specs.declared.verdicts.Verdict.{Verdict}
 use Rattle.verdict.specs.declared.plans.Expected.{Expected}
 use Rattle.verdict.specs.declared.plans.Expected.TheVariants as expected
 use Rattle.verdict.proofs.Goods.{good_exactly}
@@ -24,14 +24,15 @@ use Rattle.monitor.specs.Entries.{is_command, is_data_word, is_second, commands_
 use Rattle.monitor.specs.Logs.{Group, Placed, heard_on, part_in, belongs, closes_at, groups_from, groups_of, end_time}
 use Rattle.monitor.specs.declared.entries.Commands.{Commands}
 use Rattle.monitor.specs.declared.entries.Commands.TheVariants as commands
-use Rattle.monitor.specs.declared.entries.Outcome.TheVariants as outcome
-use Rattle.monitor.proofs.Appends.{or_no, last_snoc}
+use Rattle.monitor.proofs.Appends.{last_snoc}
+use Rattle.std.proofs.lemmas.Bool.{or_parts}
 use Rattle.monitor.proofs.Counts.{heards, heards_on}
 use Rattle.agreement.specs.Logged.{takes, BeginsAnEntry}
 use Rattle.agreement.proofs.Fronts.{takes_from}
 use Rattle.agreement.proofs.Joined.{data_not_command, not_second, not_expected, command_closes, far_closes}
 use Rattle.agreement.proofs.Outcomes.{last_append, second_parts}
 use Rattle.agreement.proofs.Pairs.{pair_parts}
+use Rattle.monitor.specs.Entries.{is_word}
 
 -- ---- no record before
 
@@ -103,10 +104,7 @@ record Heard (first : WordRecord) (rest : List WordRecord) (until : Moment) : Ty
   enough : own_number first rest ≤ length (behind_of first rest)
   back : Good (plan_of first rest until).until.0 (expected_of (plan_of first rest until)) (plan_of first rest until).last.0 (returned_in first rest)
 
-given_same : (v w : Verdict) → outcome.Given v ≡ outcome.Given w → v ≡ w
-given_same v w h = cc
-
-good_heard : (first : WordRecord) (rest : List WordRecord) (until : Moment) → outcome_in first rest until ≡ outcome.Given (record { 0 = good })
+good_heard : (first : WordRecord) (rest : List WordRecord) (until : Moment) → outcome_in first rest until ≡ Some verdict.Good
     → Heard first rest until
 unfolding outcome_in
 good_heard first rest until given = go (not (is_possible plan) || own_bad first rest || has_twins first rest) refl given
@@ -115,19 +113,18 @@ good_heard first rest until given = go (not (is_possible plan) || own_bad first 
     plan = plan_of first rest until
 
     go : (b : Bool) → (not (is_possible plan) || own_bad first rest || has_twins first rest) ≡ b
-        → cond b outcome.None (outcome.Given (record { 0 = verdict_of plan (returned_in first rest) })) ≡ outcome.Given (record { 0 = good })
+        → cond b None (Some (verdict_of plan (returned_in first rest))) ≡ Some verdict.Good
         → Heard first rest until
-    go true bad given = let z : ◌≡◌ {A = ℕ} 0 1 = cc in absurd (omega arith)
+    go true bad given = none≢ given
     go false fine given =
-        let outer = or_no (not (is_possible plan) || own_bad first rest) (has_twins first rest) fine in
-        let own = (or_no (not (is_possible plan)) (own_bad first rest) outer.0).1 in
+        let outer = or_parts (not (is_possible plan) || own_bad first rest) (has_twins first rest) fine in
+        let own = (or_parts (not (is_possible plan)) (own_bad first rest) outer.0).1 in
         let parts =
-        or_no (is_spoiled (own_number first rest) (last_command first rest).time.0 (behind_of first rest)) (is_short (own_number first rest) (behind_of first rest)) own in
-        let verdict : verdict_of plan (returned_in first rest) ≡ good = ap (λ (v : Verdict). v.0) (given_same _ _ given) in
+        or_parts (is_spoiled (own_number first rest) (last_command first rest).time.0 (behind_of first rest)) (is_short (own_number first rest) (behind_of first rest)) own in
         record {
           sound = parts.0;
           enough = ltb-false (length (behind_of first rest)) (own_number first rest) parts.1;
-          back = (good_exactly plan (returned_in first rest)).0 verdict;
+          back = (good_exactly plan (returned_in first rest)).0 (some_same _ _ given);
         }
 
 -- its own data words are no statuses
@@ -135,7 +132,7 @@ own_statuses : (n t : ℕ) (rs : List WordRecord) → is_spoiled n t rs ≡ fals
 own_statuses zero t rs sound = refl
 own_statuses (suc n) t [] sound = refl
 own_statuses (suc n) t (r ∷ rs) sound =
-    let parts = or_no (not (is_data_word r && is_spaced t r.time.0)) (is_spoiled n r.time.0 rs) sound in
+    let parts = or_parts (not (is_data_word r && is_spaced t r.time.0)) (is_spoiled n r.time.0 rs) sound in
     let data-word = and_left _ _ (not-false _ parts.0) in
     rw (data_not_command r data-word) (own_statuses n r.time.0 rs parts.1)
 
@@ -143,13 +140,13 @@ own_statuses (suc n) t (r ∷ rs) sound =
 first_status : {until last address : ℕ} {unjudged : Bool} {es : List Expected} {rs : List WordRecord}
     → Good until (expected.Status address unjudged ∷ es) last rs
     → (r : WordRecord) × (more : List WordRecord) × (statuses_in rs ≡ r ∷ statuses_in more) × (address_of r.word ≡ address) × Good until es r.time.0 more
-unfolding is_command
+unfolding is_word
 first_status (status {r = r} {rs = more} is rest) = (r, more, rw (is.valid, is.sync), is.from, rest)
 
 -- data words that are expected are none
 words_status : {until last : ℕ} {es : List Expected} {rs : List WordRecord} (n : ℕ) → Good until (replicate n expected.Data ++ es) last rs
     → (last' : ℕ) × (more : List WordRecord) × (statuses_in rs ≡ statuses_in more) × Good until es last' more
-unfolding is_command
+unfolding is_word
 words_status {last = last} {rs = rs} zero back = (last, rs, refl, back)
 words_status (suc n) (word {r = r} {rs = more} is rest) =
     let again = words_status n rest in

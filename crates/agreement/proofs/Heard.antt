@@ -1,5 +1,5 @@
 -- The facts of the words of an answer as they are heard. Assumes nothing.
-use mathlib.Core.Path.{◌≡◌, refl, sym, ap, subst, ◌∙◌}
+use mathlib.Core.Path.{◌≡◌, refl, ap, subst, ◌∙◌}
 use Prim.Native.Nat.{ℕ, zero, suc, ◌+◌, ◌-◌, ◌*◌, ◌^◌, ◌≤◌, ◌<◌}
 use mathlib.Core.Bool.{Bool, true, cond, ◌&&◌, ◌||◌}
 use mathlib.Core.List.{List, [], ◌∷◌, ◌++◌, append-nil}
@@ -14,19 +14,24 @@ use Rattle.records.specs.declared.forms.WordRecord.{WordRecord}
 use Rattle.records.proofs.Ranges.{ranged_in}
 use Rattle.words.proofs.Oddness.{parity_one}
 use Rattle.words.proofs.Inverse.{gaps}
-use Rattle.history.proofs.Tests.{cond_cases, and_left, and_right, or_cases}
-use Rattle.verdict.specs.Plans.{is_unjudged, status_for, sent_of, part_of}
-use Rattle.verdict.specs.Numbers.{good}
+use Rattle.history.proofs.Tests.{and_left, and_right, or_cases}
+use Rattle.verdict.specs.Plans.{is_unjudged, sent_of, part_of}
+use Rattle.std.specs.Prelude.{Option, Some, None, unwrap_or}
+use Rattle.verdict.specs.declared.verdicts.Verdict.{Verdict}
+use Rattle.verdict.specs.declared.verdicts.Verdict.TheVariants as verdict
+use Rattle.verdict.specs.declared.judges.Finding.{Finding}
 use Rattle.verdict.specs.Facts.{listened_least, flag_fact, status_fact, fact_of, end_of}
-use Rattle.verdict.specs.Verdicts.{record_refusal, finding_over}
+use Rattle.verdict.specs.Verdicts.{record_refusal, found_or, finding_over}
 use Rattle.verdict.specs.Theorems.{last_after}
 use Rattle.verdict.specs.declared.plans.Plan.{Plan}
 use Rattle.verdict.specs.declared.plans.Expected.{Expected}
 use Rattle.verdict.specs.declared.plans.Expected.TheVariants.{Data}
-use Rattle.verdict.proofs.Findings.{verdict_over, verdict_step}
+use Rattle.verdict.proofs.Findings.{verdict_over, verdict_passed}
 use Rattle.verdict.proofs.Goods.{good_data}
 use Rattle.monitor.specs.Entries.{is_data_word}
 use Rattle.agreement.specs.Agreement.{heard_at, data_from, BackToBack, Accepted}
+use Rattle.monitor.specs.Entries.{is_word}
+use Rattle.verdict.specs.Verdicts.{record_checks}
 
 -- ---- a word
 
@@ -40,7 +45,7 @@ heard_valid sync word shaped =
 -- the status word, of the address, at the due time
 status_fact_lem : (last bus word address : ℕ) (unjudged : Bool) → address_of word ≡ address
     → status_fact address unjudged last (heard_at (last + due_distance) bus command_sync word)
-    ≡ cond unjudged good (flag_fact (heard_at (last + due_distance) bus command_sync word))
+    ≡ cond unjudged None (flag_fact (heard_at (last + due_distance) bus command_sync word))
 unfolding status_fact
 status_fact_lem last bus word address unjudged from =
     rw ((gaps last).1, heard_valid command_sync word refl, eq-eqb (address_of word) address from)
@@ -56,14 +61,14 @@ spaced_apart before after h = (
 
 -- a data word is valid, with data sync
 pub data_valid : (d : WordRecord) → is_data_word d ≡ true → (is_valid d.sync d.faults d.word d.parity ≡ true) × (d.sync ≡ data_sync)
-unfolding is_data_word
+unfolding is_word
 data_valid d h =
     let valid : Bool = is_valid d.sync d.faults d.word d.parity in
     (and_left valid (eqb d.sync 1) h, eqb-true d.sync 1 (and_right valid (eqb d.sync 1) h))
 
 -- those of an answer are
 pub answer_spaced : (bus : ℕ) (words : List ℕ) (t : ℕ) → BackToBack bus t (data_from (t + word_ticks) bus words)
-unfolding data_from is_data_word is_spaced
+unfolding data_from is_word is_spaced
 answer_spaced bus [] t = tt
 answer_spaced bus (word ∷ words) t =
     let apart : t + word_ticks - t ≡ word_ticks = omega arith in
@@ -89,11 +94,10 @@ words_later bus (d ∷ ds) last spaced =
 -- ---- the walk over them
 
 -- the first fact found decides
-first_decides : (fact rest : ℕ) → (fact ≡ good → rest ≡ good) → cond (eqb fact good) rest fact ≡ fact
-first_decides fact rest goes_on_lem =
-    cond_cases (λ (v : ℕ). v ≡ fact) (eqb fact good)
-    (λ none. let clear = eqb-true fact good none in goes_on_lem clear ∙ sym clear)
-    (λ some. refl)
+first_decides : (fact : Option Verdict) (rest : Finding) → (fact ≡ None → rest.verdict ≡ verdict.Good)
+    → (found_or fact rest).verdict ≡ unwrap_or fact verdict.Good
+first_decides None rest goes_on_lem = goes_on_lem refl
+first_decides (Some v) rest goes_on_lem = refl
 
 -- data words, as many as are expected, show nothing: what comes behind decides
 pub words_passed : (bus : ℕ) (es : List Expected) (until : ℕ) (rs : List WordRecord) (ds : List WordRecord) (n last : ℕ) → length ds ≡ n
@@ -105,13 +109,13 @@ words_passed bus es until rs [] (suc n) last all spaced = absurd (omega arith)
 words_passed bus es until rs (d ∷ ds) zero last all spaced = absurd (omega arith)
 words_passed bus es until rs (d ∷ ds) (suc n) last all spaced =
     let valid = data_valid d spaced.1 in
-    verdict_step Data (replicate n Data ++ es) last until d (ds ++ rs)
-    ∙ rw (good_data last d (record { spaced = spaced.2; valid = valid.0; sync = valid.1 }))
-    (words_passed bus es until rs ds n d.time.0 (omega arith) spaced.3)
+    verdict_passed Data (replicate n Data ++ es) last until d (ds ++ rs)
+    (good_data last d (record { spaced = spaced.2; valid = valid.0; sync = valid.1 }))
+    ∙ (words_passed bus es until rs ds n d.time.0 (omega arith) spaced.3)
 
 -- where nothing does, they are good
 words_good : (bus : ℕ) (ds : List WordRecord) (n last until : ℕ) → length ds ≡ n → BackToBack bus last ds → last_after last ds + listened_least ≤ until
-    → verdict_over (replicate n Data) last until ds ≡ good
+    → verdict_over (replicate n Data) last until ds ≡ verdict.Good
 unfolding finding_over end_of
 words_good bus ds n last until all spaced listened =
     rw (append-nil (replicate n Data), append-nil ds) at (words_passed bus [] until [] ds n last all spaced)
@@ -122,22 +126,26 @@ module _ (w bus last until : ℕ) where
   abbrev due : ℕ
   due = last + due_distance
 
-  abbrev shown : ℕ → ℕ
-  shown status = cond (is_unjudged w) good (flag_fact (heard_at due bus command_sync status))
+  abbrev fact : ℕ → Option Verdict
+  fact status = cond (is_unjudged w) None (flag_fact (heard_at due bus command_sync status))
+
+  abbrev shown : ℕ → Verdict
+  shown status = unwrap_or (fact status) verdict.Good
 
   -- the status decides, where it shows nothing if what is behind it is good
   pub status_verdict : (status : ℕ) (behind : List WordRecord) → address_of status ≡ address_of w
-      → (shown status ≡ good → verdict_over (replicate (sent_of w) Data) due until behind ≡ good)
+      → (fact status ≡ None → verdict_over (replicate (sent_of w) Data) due until behind ≡ verdict.Good)
       → verdict_over (part_of w) last until (heard_at due bus command_sync status ∷ behind) ≡ shown status
-  unfolding fact_of
+  unfolding fact_of finding_over
   status_verdict status behind from full =
-      verdict_step (status_for w) (replicate (sent_of w) Data) last until (heard_at due bus command_sync status) behind
-      ∙ rw (status_fact_lem last bus status (address_of w) (is_unjudged w) from) (first_decides (shown status) _ full)
+      let rest : Finding = finding_over (replicate (sent_of w) Data) due until behind in
+      ap (λ (o : Option Verdict). (found_or o rest).verdict) (status_fact_lem last bus status (address_of w) (is_unjudged w) from)
+      ∙ first_decides (fact status) rest full
 
   -- a whole answer: its status decides, where it shows nothing with as many data words as are expected
   pub answer_verdict : (status : ℕ) (words : List ℕ) → address_of status ≡ address_of w
       → due + word_ticks * length words + listened_least ≤ until
-      → (shown status ≡ good → length words ≡ sent_of w)
+      → (fact status ≡ None → length words ≡ sent_of w)
       → verdict_over (part_of w) last until (heard_at due bus command_sync status ∷ data_from (due + word_ticks) bus words) ≡ shown status
   answer_verdict status words from listened full =
       status_verdict status (data_from (due + word_ticks) bus words) from
@@ -167,7 +175,7 @@ module _ (plan : Plan) (bus_range : plan.bus ≤ last_bus) (clock : on_clock pla
   pub word_taken : (before : ℕ) (r : WordRecord) → is_valid r.sync r.faults r.word r.parity ≡ true → r.bus ≡ plan.bus → before < r.time.0
       → r.time.0 ≤ plan.until.0
       → (in_range last_bus r ≡ true) × (record_refusal plan before r ≡ not_refused)
-  unfolding record_refusal
+  unfolding record_checks
   word_taken before r valid own later in_time_lem =
       let range = valid_range r valid in
       let on_clock_lem = ltb-true plan.until.0 (2 ^ 48) clock in (

@@ -22,6 +22,7 @@ use Rattle.monitor.proofs.Counts.{heards}
 use Rattle.agreement.specs.Agreement.{BackToBack}
 use Rattle.agreement.specs.Logged.{Closed, by_command, by_far, at_end}
 use Rattle.agreement.proofs.Heard.{data_valid, spaced_apart}
+use Rattle.monitor.specs.Entries.{is_word}
 
 -- ---- records that all belong to an open message
 
@@ -58,7 +59,7 @@ module _ (end : Moment) (place : ℕ) (first : WordRecord) where
 
 -- is no command
 pub data_not_command : (d : WordRecord) → is_data_word d ≡ true → is_command d ≡ false
-unfolding is_command
+unfolding is_word
 data_not_command d h = rw (data_valid d h).1 (and_false (is_valid 1 d.faults d.word d.parity))
 
 module _ (bus : ℕ) (first : WordRecord) (command : is_command first ≡ true) where

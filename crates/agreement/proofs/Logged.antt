@@ -26,7 +26,8 @@ use Rattle.monitor.specs.Entries.{is_command, is_second, commands_of, statuses_i
 use Rattle.monitor.specs.Logs.{Group, Placed, heard_on, part_in, belongs, groups_of, groups_on, end_time, entries_of, entries_on}
 use Rattle.monitor.specs.declared.entries.Commands.TheVariants.{Two}
 use Rattle.monitor.specs.declared.entries.Statuses.TheVariants as shown
-use Rattle.monitor.specs.declared.entries.Outcome.TheVariants as outcome
+use Rattle.std.specs.Prelude.{Some}
+use Rattle.verdict.specs.declared.verdicts.Verdict.{Verdict}
 use Rattle.monitor.proofs.Appends.{snoc, last_snoc, last_time}
 use Rattle.monitor.proofs.Counts.{heards_on}
 use Rattle.agreement.specs.Agreement.{data_from, status_heard, answer_heard, BackToBack, plan_for, shown_by, plan_between, Sent}
@@ -38,17 +39,18 @@ use Rattle.agreement.proofs.Joined.{Joins, joined_groups, data_joins, Alone, dat
 use Rattle.agreement.proofs.Outcomes.{last_append, data_twins, plan_at, outcome_own, second_parts, outcome_two}
 use Rattle.agreement.proofs.Pairs.{Parts, pair_parts}
 use Rattle.agreement.proofs.Replies.{legal_single}
+use Rattle.monitor.specs.Entries.{is_word}
 
 -- ---- a whole message, and its entry
 
 -- a command and records behind it that belong to it, so that it expects no status more, with that verdict where the controller listens long enough
-record Whole (bus : ℕ) (c : WordRecord) (rest : List WordRecord) (verdict : ℕ) : Type 0 where
+record Whole (bus : ℕ) (c : WordRecord) (rest : List WordRecord) (given : Verdict) : Type 0 where
   command : is_command c ≡ true
   own : c.bus ≡ bus
   joins : Joins c [] rest
   other : (r : WordRecord) → (eqb (length rest) 0 && is_second c r) ≡ false
   told : (r : WordRecord) → expects c rest r ≡ false
-  judged : (until : Moment) → (last_in c rest).time.0 + listened_least ≤ until.0 → outcome_in c rest until ≡ outcome.Given (record { 0 = verdict })
+  judged : (until : Moment) → (last_in c rest).time.0 + listened_least ≤ until.0 → outcome_in c rest until ≡ Some given
 
 -- the records of its bus behind a command
 heard_command : (bus place : ℕ) (c : WordRecord) (after : List WordRecord) → c.bus ≡ bus
@@ -57,12 +59,12 @@ unfolding heard_on
 heard_command bus place c after own = rw (eq-eqb c.bus bus own)
 
 -- a group that a command begins is such an entry
-group_logged : (bus : ℕ) (rs : List WordRecord) (before behind : List Group) (g : Group) (verdict : ℕ) → groups_on bus rs ≡ before ++ (g ∷ behind)
+group_logged : (bus : ℕ) (rs : List WordRecord) (before behind : List Group) (g : Group) (given : Verdict) → groups_on bus rs ≡ before ++ (g ∷ behind)
     → is_command g.first ≡ true
-    → outcome_in g.first g.rest g.until ≡ outcome.Given (record { 0 = verdict })
-    → EntryIs (entries_on bus rs) g.place (length (g.first ∷ g.rest)) verdict
+    → outcome_in g.first g.rest g.until ≡ Some given
+    → EntryIs (entries_on bus rs) g.place (length (g.first ∷ g.rest)) given
 unfolding entries_on entry_of message_of
-group_logged bus rs before behind g verdict groups command judged = record {
+group_logged bus rs before behind g given groups command judged = record {
   message = message_of g.first g.rest g.until;
   before = entries_of before;
   behind = entries_of behind;
@@ -72,8 +74,8 @@ group_logged bus rs before behind g verdict groups command judged = record {
 }
 
 -- the message is logged so, anywhere
-whole_logged : (bus : ℕ) (c : WordRecord) (rest : List WordRecord) (verdict : ℕ) → Whole bus c rest verdict → LoggedAs bus c rest verdict
-whole_logged bus c rest verdict whole front after behind begins records closed =
+whole_logged : (bus : ℕ) (c : WordRecord) (rest : List WordRecord) (given : Verdict) → Whole bus c rest given → LoggedAs bus c rest given
+whole_logged bus c rest given whole front after behind begins records closed =
     let end : Moment = end_time (record { 0 = 0 }) (front ++ (c ∷ after)) in
     let place : ℕ = length front in
     let p : Placed = record { place = place; heard = c } in
@@ -85,7 +87,7 @@ whole_logged bus c rest verdict whole front after behind begins records closed =
     let split = begins_of end (end_time (record { 0 = 0 }) front) p qs (heard_on bus 0 front) begins in
     let joined = joined_groups end place c rest [] behind qs (heards_on bus (suc place) after ∙ records) whole.joins in
     let ends = closed_groups c rest whole.command end place whole.other whole.told joined.0 behind joined.1 closed in
-    group_logged bus (front ++ (c ∷ after)) split.0 ends.1 (record { place = place; first = c; rest = rest; until = ends.0 }) verdict
+    group_logged bus (front ++ (c ∷ after)) split.0 ends.1 (record { place = place; first = c; rest = rest; until = ends.0 }) given
     (ap (groups_of end) file ∙ split.1 ∙ ap (λ (l : List Group). split.0 ++ l) (joined.2 ∙ ends.2))
     whole.command
     (whole.judged ends.0 ends.3)
@@ -106,7 +108,7 @@ module _ (s : State) (a : Answer) (fits : Fits s a) where
 
   -- the status is a valid word with command sync
   status_command : is_command (status_heard a) ≡ true
-  unfolding is_command
+  unfolding is_word
   status_command = rw (heard_valid command_sync a.status.0 refl)
 
   -- the words behind it come back to back
@@ -225,8 +227,8 @@ module _ (s : State) (a : Answer) (fits : Fits s a) where
       judged = λ until listened.
           outcome_own s.message.bus c ds (answer_heard a) until (alone_all ds asked.spaced own_last_lem) asked.awaited asked.spaced (one_possible until)
           one_twins
-          ∙ ap (λ (plan : Plan). outcome.Given (record { 0 = verdict_of plan (answer_heard a) })) (same_plan until)
-          ∙ ap (λ (v : ℕ). outcome.Given (record { 0 = v }))
+          ∙ ap (λ (plan : Plan). Some (verdict_of plan (answer_heard a))) (same_plan until)
+          ∙ ap (λ (v : Verdict). Some v)
           (verdict_of_lem (plan_for s until) (part_of s.message.command.0) (single_expects s until fits.alone) (answer_heard a)
           ∙ judged until.0 (omega (arith, listened, answer_end c ds)));
     }
@@ -247,7 +249,7 @@ module _ (s : State) (a : Answer) (fits : Fits s a) where
     between_last = ap (λ (m : Moment). m.0) heard.last
 
     first_command : is_command status ≡ true
-    unfolding is_command
+    unfolding is_word
     first_command = rw (heard.answered.valid, heard.answered.sync)
 
     -- the commands and the statuses, from each record on
@@ -335,7 +337,7 @@ module _ (s : State) (a : Answer) (fits : Fits s a) where
       judged = λ until listened.
           outcome_two c second (status ∷ (ds ++ answer_heard a)) until asked.directly two_twins
           ∙ rw (asked.word, asked.bus)
-          (ap (λ (v : ℕ). outcome.Given (record { 0 = v })) (judged until (omega (arith, listened, answer_end status ds))));
+          (ap (λ (v : Verdict). Some v) (judged until (omega (arith, listened, answer_end status ds))));
     }
 
 -- ---- the answer of the terminal
@@ -345,11 +347,14 @@ module _ (s : State) (sound : Sound s) (t : ℕ) (transmit : List ℕ) (due : is
   answer_fits = record { bus = refl; due = refl; from = from_own s sound t transmit due shows; alone = not_broadcast s sound t transmit due shows }
 
 pub terminal_is_good : TerminalIsGood
-terminal_is_good s sound t transmit sized due legal shows c ds asked =
-    rw (answer_given s sound t transmit due shows)
-    (whole_logged s.message.bus c _ _
-    (one_whole s (answer s sound t transmit due shows) (answer_fits s sound t transmit due shows) c ds asked
-    (legal_single s.setup s.message.command.0 legal) (answer_judged s sound t transmit due shows sized legal)))
+terminal_is_good s sound t transmit sized due legal shows = (
+  answer s sound t transmit due shows,
+  answer_given s sound t transmit due shows,
+  λ c ds asked.
+      whole_logged s.message.bus c _ _
+      (one_whole s (answer s sound t transmit due shows) (answer_fits s sound t transmit due shows) c ds asked
+      (legal_single s.setup s.message.command.0 legal) (answer_judged s sound t transmit due shows sized legal)),
+)
 
 pub terminal_is_good_after_any_past : TerminalIsGoodAfterAnyPast
 terminal_is_good_after_any_past past = terminal_is_good _ (reachable past)
@@ -357,11 +362,15 @@ terminal_is_good_after_any_past past = terminal_is_good _ (reachable past)
 -- ---- its answer to an illegal command
 
 pub terminal_is_error : TerminalIsError
-terminal_is_error s sound t transmit due single illegal flags shows c ds asked =
-    rw (answer_given s sound t transmit due shows, ← error_shown s sound t transmit due shows illegal flags)
-    (whole_logged s.message.bus c _ _
-    (one_whole s (answer s sound t transmit due shows) (answer_fits s sound t transmit due shows) c ds asked single
-    (λ until heard. error_judged s sound t transmit due shows illegal flags until)))
+terminal_is_error s sound t transmit due single illegal flags shows = (
+  answer s sound t transmit due shows,
+  answer_given s sound t transmit due shows,
+  λ c ds asked.
+      subst (LoggedAs s.message.bus c (ds ++ answer_heard (answer s sound t transmit due shows))) (error_shown s sound t transmit due shows illegal flags)
+      (whole_logged s.message.bus c _ _
+      (one_whole s (answer s sound t transmit due shows) (answer_fits s sound t transmit due shows) c ds asked single
+      (λ until heard. error_judged s sound t transmit due shows illegal flags until))),
+)
 
 pub terminal_is_error_after_any_past : TerminalIsErrorAfterAnyPast
 terminal_is_error_after_any_past past = terminal_is_error _ (reachable past)
@@ -369,11 +378,14 @@ terminal_is_error_after_any_past past = terminal_is_error _ (reachable past)
 -- ---- its answer between terminals
 
 pub terminal_receives : TerminalReceives
-terminal_receives s sound t transmit due shows c second status ds asked =
-    rw (answer_given s sound t transmit due shows)
-    (whole_logged s.message.bus c _ _
-    (two_whole s (answer s sound t transmit due shows) (answer_fits s sound t transmit due shows) c second status ds asked
-    (between_judged s sound t transmit due shows second status ds asked.sent)))
+terminal_receives s sound t transmit due shows = (
+  answer s sound t transmit due shows,
+  answer_given s sound t transmit due shows,
+  λ c second status ds asked.
+      whole_logged s.message.bus c _ _
+      (two_whole s (answer s sound t transmit due shows) (answer_fits s sound t transmit due shows) c second status ds asked
+      (between_judged s sound t transmit due shows second status ds asked.sent)),
+)
 
 pub terminal_receives_after_any_past : TerminalReceivesAfterAnyPast
 terminal_receives_after_any_past past = terminal_receives _ (reachable past)

@@ -16,7 +16,7 @@ use Rattle.verdict.specs.Verdicts.{verdict_of}
 use Rattle.verdict.specs.declared.plans.Plan.{Plan}
 use Rattle.monitor.specs.Entries.{is_command, is_second, last_in, is_spoiled, has_twins, plan_with, outcome_in}
 use Rattle.monitor.specs.declared.entries.Commands.TheVariants as commands
-use Rattle.monitor.specs.declared.entries.Outcome.TheVariants as outcome
+use Rattle.std.specs.Prelude.{Some}
 use Rattle.agreement.specs.Agreement.{BackToBack}
 use Rattle.agreement.proofs.Heard.{spaced_apart}
 use Rattle.agreement.proofs.Joined.{Alone}
@@ -52,7 +52,7 @@ outcome_one : (c : WordRecord) (rest : List WordRecord) (until : Moment) (n : �
     → is_spoiled n c.time.0 rest ≡ false
     → n ≤ length rest
     → has_twins c rest ≡ false
-    → outcome_in c rest until ≡ outcome.Given (record { 0 = verdict_of (plan_at c (last_in c (take n rest)).time until) (drop n rest) })
+    → outcome_in c rest until ≡ Some (verdict_of (plan_at c (last_in c (take n rest)).time until) (drop n rest))
 unfolding outcome_in
 outcome_one c [] until n alone awaited possible fit all twins = rw (awaited, possible, fit, le-ltb 0 n all)
 outcome_one c (r ∷ rs) until n alone awaited possible fit all twins =
@@ -64,7 +64,7 @@ pub outcome_own : (bus : ℕ) (c : WordRecord) (ds more : List WordRecord) (unti
     → BackToBack bus c.time.0 ds
     → is_possible (plan_at c (last_in c ds).time until) ≡ true
     → has_twins c (ds ++ more) ≡ false
-    → outcome_in c (ds ++ more) until ≡ outcome.Given (record { 0 = verdict_of (plan_at c (last_in c ds).time until) more })
+    → outcome_in c (ds ++ more) until ≡ Some (verdict_of (plan_at c (last_in c ds).time until) more)
 outcome_own bus c ds more until alone awaited spaced possible twins =
     let own : take (length ds) (ds ++ more) ≡ ds = take-append-le (length ds) ds more (omega arith) ∙ take-length ds in
     let returned : drop (length ds) (ds ++ more) ≡ more =
@@ -87,7 +87,6 @@ second_parts c second directly =
 -- the controller's own words are the two
 pub outcome_two : (c second : WordRecord) (rest : List WordRecord) (until : Moment) → is_second c second ≡ true → has_twins c (second ∷ rest) ≡ false
     → outcome_in c (second ∷ rest) until
-    ≡ outcome.Given
-    (record { 0 = verdict_of (plan_with (commands.Two (record { 0 = c.word }) (record { 0 = second.word })) c.bus second.time until) rest })
+    ≡ Some (verdict_of (plan_with (commands.Two (record { 0 = c.word }) (record { 0 = second.word })) c.bus second.time until) rest)
 unfolding outcome_in is_possible
 outcome_two c second rest until directly twins = rw (directly, (second_parts c second directly).2, le-ltb (length rest) 0 (omega arith), twins)

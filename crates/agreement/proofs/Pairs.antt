@@ -19,7 +19,7 @@ use Rattle.verdict.specs.Theorems.{last_after}
 use Rattle.verdict.specs.declared.plans.Plan.{Plan}
 use Rattle.verdict.specs.declared.plans.Expected.{Expected}
 use Rattle.verdict.specs.declared.plans.Expected.TheVariants.{Data}
-use Rattle.verdict.proofs.Findings.{verdict_over, verdict_step}
+use Rattle.verdict.proofs.Findings.{verdict_over, verdict_passed}
 use Rattle.verdict.proofs.Goods.{good_status}
 use Rattle.monitor.proofs.Appends.{last_time}
 use Rattle.agreement.specs.Agreement.{plan_between, Sent, Accepted}
@@ -89,12 +89,10 @@ module _ (s : State) (second status : WordRecord) (ds : List WordRecord) (sent :
       → verdict_over (part_of second.word ++ es) second.time.0 until (status ∷ (ds ++ rs)) ≡ verdict_over es s.message.last.0 until rs
   unfolding fact_of
   sent_passed es until rs =
-      verdict_step (status_for second.word) (replicate (sent_of second.word) Data ++ es) second.time.0 until status (ds ++ rs)
-      ∙ rw (
-        transmitter_judged s.message.command.0 second.word sent.pair,
-        good_status (address_of second.word) false second.time.0 status sent.answered,
-      )
-      (words_passed s.message.bus es until rs ds (sent_of second.word) status.time.0
+      verdict_passed (status_for second.word) (replicate (sent_of second.word) Data ++ es) second.time.0 until status (ds ++ rs)
+      (rw (transmitter_judged s.message.command.0 second.word sent.pair)
+      (good_status (address_of second.word) false second.time.0 status sent.answered))
+      ∙ (words_passed s.message.bus es until rs ds (sent_of second.word) status.time.0
       (sent.number ∙ sym (transmitter_sends s.message.command.0 second.word sent.pair)) sent.spaced
       ∙ ap (λ (n : ℕ). verdict_over es n until rs) sent_last)
 

@@ -11,7 +11,7 @@ use borrow.Author.Tests.{eqb-true, not-true, not-false}
 use Rattle.words.specs.Words.{transmit_of, code_of, words_of, is_transmit, is_mode, is_broadcast}
 use Rattle.words.specs.Modes.{Row, row, rows, found, listing_of, allows, is_allowed}
 use Rattle.words.specs.declared.modes.Listing.{Listing}
-use Rattle.words.specs.declared.modes.Listing.TheVariants.{Listed}
+use Rattle.std.specs.Prelude.{Option, Some}
 use Rattle.terminal.specs.Commands.{is_held_illegal, is_legal}
 use Rattle.terminal.specs.Settling.{first_place, no_words, table_words, mode_words, legal_reply, reply_of}
 use Rattle.terminal.specs.declared.states.Setup.{Setup}
@@ -44,7 +44,7 @@ asked code = cond (eqb code 16) 1 (cond (eqb code 18) 1 (cond (eqb code 19) 1 0)
 -- rows have that number in their last column
 are_asked : List Row → Bool
 are_asked [] = true
-are_asked (row code transmit broadcast word ∷ rest) = eqb (sent_by (Listed broadcast word)) (asked code) && are_asked rest
+are_asked (row code transmit broadcast word ∷ rest) = eqb (sent_by (Some (record { broadcast = broadcast; word = word }))) (asked code) && are_asked rest
 
 -- those of document 01 have
 rows_asked : are_asked rows ≡ true
@@ -56,7 +56,7 @@ found_asked : (t c : ℕ) (to_all : Bool) (rs : List Row) → are_asked rs ≡ t
 unfolding are_asked found allows
 found_asked t c to_all [] all = false≢
 found_asked t c to_all (row code transmit broadcast word ∷ rest) all =
-    cond_cases (λ (l : Listing). allows l to_all ≡ true → sent_by l ≡ asked c) (eqb code c && eqb transmit t)
+    cond_cases (λ (l : Option Listing). allows l to_all ≡ true → sent_by l ≡ asked c) (eqb code c && eqb transmit t)
     (λ here allowed.
     let same : code ≡ c = search (eqb-true, and_left, here) in
     rw (← same) (search (eqb-true, and_left, all)))

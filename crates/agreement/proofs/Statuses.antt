@@ -1,5 +1,5 @@
 -- The status of an answer: its address, the flag of a busy terminal, that of an illegal command. Assumes nothing.
-use mathlib.Core.Path.{◌≡◌, refl}
+use mathlib.Core.Path.{◌≡◌, refl, sym}
 use Prim.Native.Nat.{ℕ, ◌^◌}
 use mathlib.Core.Bool.{Bool, true, false, not, cond, ◌&&◌, ◌||◌, and-false}
 use native.Mathlib.Omega.{arith}
@@ -13,17 +13,19 @@ use Rattle.terminal.specs.Commands.{is_exempt, is_legal}
 use Rattle.terminal.specs.Settling.{with_if, settled_status}
 use Rattle.terminal.specs.declared.states.Terminal.{Terminal as State}
 use Rattle.history.specs.States.{Sound}
-use Rattle.history.proofs.Tests.{cond_cases}
+use Rattle.history.proofs.Tests.{none≢, cond_cases}
 use Rattle.history.proofs.Holdings.{status_settled}
 use Rattle.verdict.specs.Plans.{is_unjudged}
-use Rattle.verdict.specs.Numbers.{good, message_error}
+use Rattle.std.specs.Prelude.{Option, None, unwrap_or}
+use Rattle.verdict.specs.declared.verdicts.Verdict.{Verdict}
+use Rattle.verdict.specs.declared.verdicts.Verdict.TheVariants as verdict
 use Rattle.verdict.specs.Facts.{flag_fact}
 
--- a status with busy in it is not judged good
-busy_judged : (r : WordRecord) → has_flag Busy r.word ≡ true → flag_fact r ≡ good → ⊥
+-- a status with busy in it shows a fact
+busy_judged : (r : WordRecord) → has_flag Busy r.word ≡ true → flag_fact r ≡ None → ⊥
 unfolding flag_fact
 busy_judged r busy =
-    rw busy (cond_cases (λ (v : ℕ). v ≡ good → ⊥) (has_flag MessageError r.word) (omega arith) (omega arith))
+    rw busy (cond_cases (λ (o : Option Verdict). o ≡ None → ⊥) (has_flag MessageError r.word) (λ e h. none≢ (sym h)) (λ e h. none≢ (sym h)))
 
 -- another flag, on or not, leaves busy there
 busy_kept : (on : Bool) (flag : Flag) (n : ℕ) → (2 ^ 3 ≡ bit_of flag → ⊥) → has_flag Busy n ≡ true → has_flag Busy (with_if on flag n) ≡ true
@@ -47,7 +49,7 @@ module _ (s : State) (w : ℕ) where
 
   -- so where its status is judged good it is not busy
   pub good_ready : is_legal s.setup w ≡ true → (r : WordRecord) → r.word ≡ settled_status s w
-      → cond (is_unjudged w) good (flag_fact r) ≡ good
+      → cond (is_unjudged w) None (flag_fact r) ≡ None
       → is_mode w ≡ false
       → s.host.busy ≡ false
   unfolding is_unjudged
@@ -69,6 +71,6 @@ module _ (s : State) (w : ℕ) where
 
   -- so where it is illegal its status is judged a message error
   pub error_settled : is_legal s.setup w ≡ false → is_unjudged w ≡ false → (r : WordRecord) → r.word ≡ settled_status s w
-      → cond (is_unjudged w) good (flag_fact r) ≡ message_error
+      → unwrap_or (cond (is_unjudged w) None (flag_fact r)) verdict.Good ≡ verdict.MessageError
   unfolding settled_status flag_fact
   error_settled illegal flags r is = rw (flags, is, judged_not_exempt flags, illegal, (flag_alone MessageError _).0)

@@ -1,6 +1,6 @@
 -- The two halves of the card agree: the answer of the terminal to a legal command, put on the bus at its due time, is judged good or, with message
 -- error or busy in its status, 8 or 9; that to an illegal one is judged 8. Proved in proofs/ under the name above it. Assumes nothing.
-use Rattle.std.specs.Prelude.{◌≡◌, ℕ, ◌+◌, ◌*◌, ◌≤◌, true, false, cond, List, [], ◌∷◌, ◌++◌, eqb, length, take}
+use Rattle.std.specs.Prelude.{◌≡◌, ℕ, ◌+◌, ◌*◌, ◌≤◌, true, false, cond, List, [], ◌∷◌, ◌++◌, length, take, Some, None, unwrap_or, Ok}
 use Rattle.words.specs.Words.{on_clock, address_of, words_of, is_broadcast, is_spaced, word_ticks, parity_of, command_sync, data_sync}
 use Rattle.words.specs.Refusals.{not_refused}
 use Rattle.words.specs.declared.times.Moment.{Moment}
@@ -14,13 +14,13 @@ use Rattle.terminal.specs.declared.states.Terminal.{Terminal as State}
 use Rattle.terminal.specs.declared.answers.Answer.{Answer}
 use Rattle.history.specs.Calls.{Past, after_past}
 use Rattle.history.specs.States.{Sound}
-use Rattle.verdict.specs.Plans.{is_single, is_pair, plan_refusal, is_unjudged}
-use Rattle.verdict.specs.Numbers.{good, message_error}
+use Rattle.verdict.specs.Plans.{is_single, is_pair, plan_checks, plan_refusal, is_unjudged}
+use Rattle.verdict.specs.declared.verdicts.Verdict.{Verdict}
+use Rattle.verdict.specs.declared.verdicts.Verdict.TheVariants as verdict
 use Rattle.verdict.specs.Facts.{listened_least, flag_fact}
-use Rattle.verdict.specs.Verdicts.{record_refusal, finding, verdict_of, judged_of}
+use Rattle.verdict.specs.Verdicts.{record_refusal, finding, verdict_of, judged_with, judged_of}
 use Rattle.verdict.specs.Theorems.{GoodStatus}
 use Rattle.verdict.specs.declared.plans.Plan.{Plan}
-use Rattle.verdict.specs.declared.judges.Judged.TheVariants as judged
 use Rattle.monitor.specs.Entries.{is_data_word, last_in}
 
 -- ---- the answer on the bus
@@ -69,14 +69,18 @@ Accepted plan before [] = Unit {0}
 Accepted plan before (r ∷ rs) = (in_range last_bus r ≡ true) × (record_refusal plan before r ≡ not_refused) × Accepted plan r.time.0 rs
 
 -- The plan is not refused, nor is a record, and that is the verdict.
-pub record JudgedAs (plan : Plan) (returned : List WordRecord) (verdict : ℕ) : Type 0 where
+pub record JudgedAs (plan : Plan) (returned : List WordRecord) (given : Verdict) : Type 0 where
   pub unrefused : plan_refusal plan ≡ not_refused
   pub accepted : Accepted plan plan.last.0 returned
-  pub judged : verdict_of plan returned ≡ verdict
+  pub judged : verdict_of plan returned ≡ given
 
 -- the verdict by the status of an answer: "Message error: 8. Busy: 9. The last two aren't given for mode codes 2 and 18.", else good
-abbrev pub shown_by : State → Answer → ℕ
-shown_by s a = cond (is_unjudged s.message.command.0) good (flag_fact (status_heard a))
+abbrev pub shown_by : State → Answer → Verdict
+shown_by s a = unwrap_or (cond (is_unjudged s.message.command.0) None (flag_fact (status_heard a))) verdict.Good
+
+-- an answer is given at that time, and it is so
+abbrev pub Given : State → ℕ → List ℕ → (Answer → Type 0) → Type 0
+Given s t transmit Holds = (a : Answer) × (rule1_answer s t transmit ≡ Some a) × Holds a
 
 abbrev pub AgreesFrom : State → Type 0
 AgreesFrom s =
@@ -85,10 +89,11 @@ AgreesFrom s =
     → is_due s.message t ≡ true
     → is_legal s.setup s.message.command.0 ≡ true
     → is_withheld s ≡ false
-    -- and the controller listens long enough past the last word of the answer
-    → (until : Moment) → on_clock until.0 ≡ true
-    → (rule1_answer s t transmit).due.0 + word_ticks * (rule1_answer s t transmit).count + listened_least ≤ until.0
-    → JudgedAs (plan_for s until) (answer_heard (rule1_answer s t transmit)) (shown_by s (rule1_answer s t transmit))
+    -- then it is given; and where the controller listens long enough past its last word
+    → Given s t transmit (λ (a : Answer).
+    (until : Moment) → on_clock until.0 ≡ true
+    → a.due.0 + word_ticks * a.count + listened_least ≤ until.0
+    → JudgedAs (plan_for s until) (answer_heard a) (shown_by s a))
 
 -- agrees: of every sound terminal
 abbrev pub Agrees : Type 0
@@ -109,9 +114,10 @@ AgreesIllegal =
     → is_legal s.setup s.message.command.0 ≡ false
     → is_unjudged s.message.command.0 ≡ false
     → is_withheld s ≡ false
-    → (until : Moment) → on_clock until.0 ≡ true
-    → (rule1_answer s t transmit).due.0 ≤ until.0
-    → JudgedAs (plan_for s until) (answer_heard (rule1_answer s t transmit)) message_error
+    → Given s t transmit (λ (a : Answer).
+    (until : Moment) → on_clock until.0 ≡ true
+    → a.due.0 ≤ until.0
+    → JudgedAs (plan_for s until) (answer_heard a) verdict.MessageError)
 
 -- ---- between terminals
 
@@ -143,12 +149,13 @@ AgreesBetweenFrom s =
     (t : ℕ) (transmit : List ℕ)
     → is_due s.message t ≡ true
     → is_withheld s ≡ false
-    → (second status : WordRecord) (ds : List WordRecord) → Sent s second status ds
+    → Given s t transmit (λ (a : Answer).
+    (second status : WordRecord) (ds : List WordRecord) → Sent s second status ds
     → (until : Moment) → on_clock until.0 ≡ true
-    → (rule1_answer s t transmit).due.0 + listened_least ≤ until.0
-    → JudgedAs (plan_between s second until) (status ∷ (ds ++ answer_heard (rule1_answer s t transmit))) (shown_by s (rule1_answer s t transmit))
-    × ((rule1_answer s t transmit).count ≡ 0)
-    × (is_legal s.setup s.message.command.0 ≡ false → shown_by s (rule1_answer s t transmit) ≡ message_error)
+    → a.due.0 + listened_least ≤ until.0
+    → JudgedAs (plan_between s second until) (status ∷ (ds ++ answer_heard a)) (shown_by s a)
+    × (a.count ≡ 0)
+    × (is_legal s.setup s.message.command.0 ≡ false → shown_by s a ≡ verdict.MessageError))
 
 -- agrees_between: of every sound terminal
 abbrev pub AgreesBetween : Type 0
@@ -164,8 +171,7 @@ AgreesBetweenAfterAnyPast = (past : Past) → AgreesBetweenFrom (after_past past
 -- and the message of a sound terminal is due, of a command that a plan may have.
 pub record Unanswered (s : State) (t : ℕ) (transmit : List ℕ) (until : Moment) : Type 0 where
   pub silent : rule1_answer s t transmit ≡ no_answer
-  pub judged : judged_of (plan_for s until) []
-      ≡ cond (eqb (plan_refusal (plan_for s until)) not_refused) (judged.Given (finding good 0)) (judged.Refused (record { 0 = plan_refusal (plan_for s until) }))
+  pub judged : judged_of (plan_for s until) [] ≡ judged_with (plan_checks (plan_for s until)) (Ok (finding verdict.Good 0))
   pub unrefused : Sound s → is_due s.message t ≡ true → is_single s.message.command.0 ≡ true → on_clock until.0 ≡ true
       → plan_refusal (plan_for s until) ≡ not_refused
 
@@ -186,4 +192,4 @@ AgreesBroadcastBetween =
     → (second status : WordRecord) (ds : List WordRecord) → Sent s second status ds
     → (until : Moment) → on_clock until.0 ≡ true
     → s.message.last.0 + listened_least ≤ until.0
-    → (rule1_answer s t transmit ≡ no_answer) × JudgedAs (plan_between s second until) (status ∷ ds) good
+    → (rule1_answer s t transmit ≡ no_answer) × JudgedAs (plan_between s second until) (status ∷ ds) verdict.Good

@@ -1,19 +1,19 @@
 -- The terminal in a monitor's log (02 a): wherever in a file a command with its data words and the answer of the terminal stands, it is one entry. Its
 -- verdict is that of the status, 0, 8 or 9, where the command is legal, and 8 where the terminal holds it illegal. Proved in proofs/ under the name above it.
 -- Assumes nothing.
-use Rattle.std.specs.Prelude.{◌≡◌, ℕ, ◌+◌, ◌≤◌, ◌<◌, Bool, true, false, List, [], ◌∷◌, ◌++◌, length}
+use Rattle.std.specs.Prelude.{◌≡◌, ℕ, ◌+◌, ◌≤◌, ◌<◌, Bool, true, false, List, [], ◌∷◌, ◌++◌, length, Some}
 use Rattle.words.specs.Words.{awaited_of, no_response_distance}
 use Rattle.words.specs.declared.times.Moment.{Moment}
 use Rattle.records.specs.declared.forms.WordRecord.{WordRecord}
 use Rattle.terminal.specs.Commands.{is_legal}
 use Rattle.terminal.specs.Messages.{is_due}
 use Rattle.terminal.specs.Settling.{is_withheld}
-use Rattle.terminal.specs.Rules.{rule1_answer}
 use Rattle.terminal.specs.declared.states.Terminal.{Terminal as State}
 use Rattle.history.specs.Calls.{Past, after_past}
 use Rattle.history.specs.States.{Sound}
 use Rattle.verdict.specs.Plans.{is_single, is_unjudged}
-use Rattle.verdict.specs.Numbers.{good, message_error}
+use Rattle.verdict.specs.declared.verdicts.Verdict.{Verdict}
+use Rattle.verdict.specs.declared.verdicts.Verdict.TheVariants as verdict
 use Rattle.verdict.specs.Facts.{listened_least}
 use Rattle.monitor.specs.Entries.{is_command, is_second, last_in, outcome_in}
 use Rattle.monitor.specs.Logs.{Group, part_in, belongs, groups_on, end_time, entries_on}
@@ -21,8 +21,8 @@ use Rattle.monitor.specs.Theorems.{on_bus}
 use Rattle.monitor.specs.declared.entries.Logged.{Logged}
 use Rattle.monitor.specs.declared.entries.Message.{Message}
 use Rattle.monitor.specs.declared.entries.Entry.TheVariants as entry
-use Rattle.monitor.specs.declared.entries.Outcome.TheVariants as outcome
-use Rattle.agreement.specs.Agreement.{answer_heard, BackToBack, shown_by, Sent}
+use Rattle.terminal.specs.declared.answers.Answer.{Answer}
+use Rattle.agreement.specs.Agreement.{answer_heard, BackToBack, shown_by, Given, Sent}
 
 -- ---- the records of the message
 
@@ -60,7 +60,7 @@ pub record BeginsAnEntry : Type 0 where
       → last.time.0 + no_response_distance < r.time.0
       → takes (groups_on bus front) r ≡ false
   pub good : (bus : ℕ) (front : List WordRecord) (before : List Group) (g : Group) (r : WordRecord) → groups_on bus front ≡ before ++ (g ∷ [])
-      → (until : Moment) → outcome_in g.first g.rest until ≡ outcome.Given (record { 0 = good })
+      → (until : Moment) → outcome_in g.first g.rest until ≡ Some verdict.Good
       → is_command r ≡ true
       → takes (groups_on bus front) r ≡ false
 
@@ -74,23 +74,23 @@ pub data Closed (last : ℕ) (end : Moment) : List WordRecord → Type 0 where
 -- ---- the statement
 
 -- An entry of a log is a message that begins at that place of the file, of so many records, with that verdict.
-pub record EntryIs (log : List Logged) (place records verdict : ℕ) : Type 0 where
+pub record EntryIs (log : List Logged) (place records : ℕ) (given : Verdict) : Type 0 where
   pub message : Message
   pub before : List Logged
   pub behind : List Logged
   pub entries : log ≡ before ++ (record { place = place; entry = entry.Message message } ∷ behind)
   pub number : message.records ≡ records
-  pub judged : message.outcome ≡ outcome.Given (record { 0 = verdict })
+  pub judged : message.outcome ≡ Some given
 
 -- Anywhere in a file, among any records of the other bus: the records before the command leave no entry open that takes it; those behind it are, on its bus,
 -- the rest of the message and what closes it. Then an entry of that bus is the message and no more, at the command's place, with that verdict.
-abbrev pub LoggedAs : ℕ → WordRecord → List WordRecord → ℕ → Type 0
-LoggedAs bus c rest verdict =
+abbrev pub LoggedAs : ℕ → WordRecord → List WordRecord → Verdict → Type 0
+LoggedAs bus c rest given =
     (front after behind : List WordRecord)
     → takes (groups_on bus front) c ≡ false
     → on_bus bus after ≡ rest ++ behind
     → Closed (last_in c rest).time.0 (end_time (record { 0 = 0 }) (front ++ (c ∷ after))) behind
-    → EntryIs (entries_on bus (front ++ (c ∷ after))) (length front) (length (c ∷ rest)) verdict
+    → EntryIs (entries_on bus (front ++ (c ∷ after))) (length front) (length (c ∷ rest)) given
 
 -- as in `AgreesFrom`: a message is due, its command legal, its answer not withheld, the transmit table of 1,024 words
 abbrev pub TerminalIsGoodFrom : State → Type 0
@@ -99,8 +99,9 @@ TerminalIsGoodFrom s =
     → is_due s.message t ≡ true
     → is_legal s.setup s.message.command.0 ≡ true
     → is_withheld s ≡ false
-    → (c : WordRecord) (ds : List WordRecord) → Asked s c ds
-    → LoggedAs s.message.bus c (ds ++ answer_heard (rule1_answer s t transmit)) (shown_by s (rule1_answer s t transmit))
+    → Given s t transmit (λ (a : Answer).
+    (c : WordRecord) (ds : List WordRecord) → Asked s c ds
+    → LoggedAs s.message.bus c (ds ++ answer_heard a) (shown_by s a))
 
 -- terminal_is_good: of every sound terminal
 abbrev pub TerminalIsGood : Type 0
@@ -121,8 +122,9 @@ TerminalIsErrorFrom s =
     → is_legal s.setup s.message.command.0 ≡ false
     → is_unjudged s.message.command.0 ≡ false
     → is_withheld s ≡ false
-    → (c : WordRecord) (ds : List WordRecord) → Asked s c ds
-    → LoggedAs s.message.bus c (ds ++ answer_heard (rule1_answer s t transmit)) message_error
+    → Given s t transmit (λ (a : Answer).
+    (c : WordRecord) (ds : List WordRecord) → Asked s c ds
+    → LoggedAs s.message.bus c (ds ++ answer_heard a) verdict.MessageError)
 
 -- terminal_is_error: of every sound terminal
 abbrev pub TerminalIsError : Type 0
@@ -141,8 +143,9 @@ TerminalReceivesFrom s =
     (t : ℕ) (transmit : List ℕ)
     → is_due s.message t ≡ true
     → is_withheld s ≡ false
-    → (c second status : WordRecord) (ds : List WordRecord) → AskedBetween s c second status ds
-    → LoggedAs s.message.bus c (second ∷ status ∷ (ds ++ answer_heard (rule1_answer s t transmit))) (shown_by s (rule1_answer s t transmit))
+    → Given s t transmit (λ (a : Answer).
+    (c second status : WordRecord) (ds : List WordRecord) → AskedBetween s c second status ds
+    → LoggedAs s.message.bus c (second ∷ status ∷ (ds ++ answer_heard a)) (shown_by s a))
 
 -- terminal_receives: of every sound terminal
 abbrev pub TerminalReceives : Type 0

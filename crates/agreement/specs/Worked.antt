@@ -1,5 +1,5 @@
 -- A file worked out, in which the premises of `terminal_receives` are met. "Address 5, all legal, fresh", as on the bench cards. Assumes nothing.
-use Rattle.std.specs.Prelude.{◌≡◌, true, false, List, [], ◌∷◌, ◌++◌}
+use Rattle.std.specs.Prelude.{◌≡◌, true, false, List, [], ◌∷◌, ◌++◌, Some, replicate}
 use Rattle.words.specs.Words.{command_sync, data_sync}
 use Rattle.records.specs.declared.forms.WordRecord.{WordRecord}
 use Rattle.terminal.specs.Messages.{is_due}
@@ -10,7 +10,8 @@ use Rattle.terminal.specs.declared.states.Terminal.{Terminal as State}
 use Rattle.terminal.specs.declared.events.Event.TheVariants.{Word}
 use Rattle.history.specs.Calls.{Call}
 use Rattle.history.specs.Witnesses.{hears, bench_after}
-use Rattle.verdict.specs.Numbers.{good}
+use Rattle.verdict.specs.declared.verdicts.Verdict.TheVariants.{Good}
+use Rattle.terminal.specs.declared.answers.Answer.{Answer}
 use Rattle.monitor.specs.Entries.{last_in}
 use Rattle.monitor.specs.Logs.{groups_on, end_time, entries_on}
 use Rattle.monitor.specs.Theorems.{on_bus}
@@ -64,16 +65,21 @@ past = heard_by (front ++ (first ∷ second ∷ noise ∷ status ∷ words))
 unfoldable pub terminal : State
 terminal = bench_after past
 
+-- its answer, a status alone
+unfoldable pub reply : Answer
+reply = record { due = record { 0 = 2120 }; words = replicate 32 0; status = record { 0 = 0x2800 }; count = 0; bus = 0 }
+
 -- Every premise is met: met
 pub record Met : Type 0 where
   pub due : is_due terminal.message 2120 ≡ true
   pub shown : is_withheld terminal ≡ false
+  pub given : rule1_answer terminal 2120 zeros ≡ Some reply
   pub asked : AskedBetween terminal first second status words
   pub begins : takes (groups_on 0 front) first ≡ false
-  pub records : on_bus 0 after ≡ (second ∷ status ∷ (words ++ answer_heard (rule1_answer terminal 2120 zeros))) ++ (next ∷ [])
-  pub closed : Closed (last_in first (second ∷ status ∷ (words ++ answer_heard (rule1_answer terminal 2120 zeros)))).time.0
+  pub records : on_bus 0 after ≡ (second ∷ status ∷ (words ++ answer_heard reply)) ++ (next ∷ [])
+  pub closed : Closed (last_in first (second ∷ status ∷ (words ++ answer_heard reply))).time.0
       (end_time (record { 0 = 0 }) (front ++ (first ∷ after))) (next ∷ [])
 
 -- and the entry at place 5 of the file is the message, of six records, judged good: worked
 abbrev pub Worked : Type 0
-Worked = EntryIs (entries_on 0 (front ++ (first ∷ after))) 5 6 good
+Worked = EntryIs (entries_on 0 (front ++ (first ∷ after))) 5 6 Good
