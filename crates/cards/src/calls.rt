@@ -66,7 +66,7 @@ pub(crate) enum Setting {
 impl Parts<'_> {
     // A, or A R T: a set-up that names no masks lends all
     fn take_set_up(&mut self) -> Option<Call<'static>> {
-        let address = self.take_address()?;
+        let address = self.take_number()?;
         if self.is_empty() {
             return Some(Call::SetUp {
                 address,
@@ -83,11 +83,11 @@ impl Parts<'_> {
 
     // I, or I N: one that names no number of words asks for one
     fn take_received(&mut self) -> Option<Call<'static>> {
-        let place = self.take_size()?;
+        let place = self.take_number()?;
         let count = if self.is_empty() {
             1
         } else {
-            self.take_size()?
+            self.take_number()?
         };
         Some(Call::Received { place, count })
     }
@@ -112,7 +112,7 @@ impl Parts<'_> {
     // I WORD
     fn take_send(&mut self) -> Option<Call<'static>> {
         Some(Call::Send {
-            place: self.take_size()?,
+            place: self.take_number()?,
             word: self.take_word()?,
         })
     }

@@ -4,6 +4,7 @@
 use crate::tables::Side;
 use lines::{read_decimal, read_hexadecimal};
 use records::WordRecord;
+use std::num::TryFromIntError;
 use verdict::Plan;
 use words::{CommandWord, Moment};
 
@@ -45,30 +46,27 @@ impl<'a> Parts<'a> {
         self.rest.is_empty()
     }
 
-    pub(crate) fn take_number(&mut self) -> Option<u64> {
-        read_decimal(self.take()?)
+    // Gives a decimal number that fits its type. What is out of a narrower range than that is for the call to refuse.
+    pub(crate) fn take_number<T: TryFrom<u64, Error = TryFromIntError> + Drop>(
+        &mut self,
+    ) -> Option<T> {
+        T::try_from(read_decimal(self.take()?)?).ok()
     }
 
-    // Gives a number that counts something, or a place.
-    pub(crate) fn take_size(&mut self) -> Option<usize> {
-        usize::try_from(self.take_number()?).ok()
+    // Gives what so many hexadecimal digits spell, likewise.
+    fn take_hexadecimal<T: TryFrom<u64, Error = TryFromIntError> + Drop>(
+        &mut self,
+        digits: usize,
+    ) -> Option<T> {
+        T::try_from(read_hexadecimal(self.take()?, digits)?).ok()
     }
 
     pub(crate) fn take_at_most(&mut self, most: usize) -> Option<usize> {
-        self.take_size().filter(|size| *size <= most)
-    }
-
-    pub(crate) fn take_byte(&mut self) -> Option<u8> {
-        u8::try_from(self.take_number()?).ok()
-    }
-
-    // Gives an address to set up with, one out of range too.
-    pub(crate) fn take_address(&mut self) -> Option<u16> {
-        u16::try_from(self.take_number()?).ok()
+        self.take_number().filter(|size| *size <= most)
     }
 
     pub(crate) fn take_flag(&mut self) -> Option<bool> {
-        match self.take_number()? {
+        match self.take_number::<u64>()? {
             0 => Some(false),
             1 => Some(true),
             _ => None,
@@ -76,11 +74,11 @@ impl<'a> Parts<'a> {
     }
 
     pub(crate) fn take_word(&mut self) -> Option<u16> {
-        u16::try_from(read_hexadecimal(self.take()?, 4)?).ok()
+        self.take_hexadecimal(4)
     }
 
     pub(crate) fn take_mask(&mut self) -> Option<u32> {
-        u32::try_from(read_hexadecimal(self.take()?, 8)?).ok()
+        self.take_hexadecimal(8)
     }
 
     pub(crate) fn take_side(&mut self) -> Option<Side> {
@@ -95,21 +93,21 @@ impl<'a> Parts<'a> {
     pub(crate) fn take_record(&mut self) -> Option<WordRecord> {
         Some(WordRecord {
             time: Moment(self.take_number()?),
-            bus: self.take_byte()?,
-            sync: self.take_byte()?,
-            faults: self.take_byte()?,
+            bus: self.take_number()?,
+            sync: self.take_number()?,
+            faults: self.take_number()?,
             word: self.take_word()?,
-            parity: self.take_byte()?,
+            parity: self.take_number()?,
         })
     }
 
     // N C1 C2 BUS E Q
     pub(crate) fn take_plan(&mut self) -> Option<Plan> {
         Some(Plan {
-            commands: self.take_byte()?,
+            commands: self.take_number()?,
             first: CommandWord(self.take_word()?),
             second: CommandWord(self.take_word()?),
-            bus: self.take_byte()?,
+            bus: self.take_number()?,
             last: Moment(self.take_number()?),
             until: Moment(self.take_number()?),
         })
