@@ -10,6 +10,7 @@ use std::fs::File;
 use std::io::{Cursor, Error, Write};
 use std::os::fd::{AsRawFd, IntoRawFd};
 
+// The program is a constant of each tool and the name another at each call, so they are handed on as two.
 // Begins a sentence on standard error: "PROGRAM: NAME", with no line end.
 // Tables: program and name are only read. Refusals: none.
 pub fn begin_complaint(program: &[u8], name: &[u8])

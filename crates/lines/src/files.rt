@@ -8,14 +8,14 @@ use std::io::{Error, Read, Seek, Stdin, Write};
 // the system's number for a name that is no text: files are opened by names in UTF-8 alone
 const NO_TEXT: i32 = 84;
 
-// What is read from: standard input, or a file that was opened.
+// What is read from: standard input, or a file that was opened. Two kinds and no more, so that it is copied where a `dyn` or a parameter of its own would be lent on.
 #[derive(Clone, Copy)]
 pub enum Source<'a> {
     Input(Stdin),
     Opened(&'a File),
 }
 
-// Gives the system's number for a failure, 0 where it has none.
+// Gives the system's number for a failure, 0 where it has none. It stays a number: the system has many, takes each back for its words, and a sink that holds it is copied.
 // Tables: none. Refusals: none.
 pub fn number_of(error: Error) -> i32 {
     error.raw_os_error().unwrap_or(0)

@@ -43,6 +43,7 @@ pub fn read_digit(byte: u8) -> Option<u8>
     Some(digit as u8)
 }
 
+// Another rule than that of `read_decimal`: so many digits always fit, and there the sum is asked.
 // Gives the number that exactly so many hexadecimal digits spell, 1 to 16 of them, in either case. Anything else is None.
 // Tables: text is only read. Refusals: none.
 pub fn read_hexadecimal(text: &[u8], digits: usize) -> Option<u64>

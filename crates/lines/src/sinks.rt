@@ -17,7 +17,7 @@ pub type Block = [u8; 65536];
 
 const BLOCK_BYTES: usize = 65536;
 
-// An open file: standard output, standard error, or one that was made, by its descriptor's number.
+// An open file: standard output, standard error, or one that was made, by its descriptor's number. Three kinds and no more, so that a sink is copied.
 #[derive(Clone, Copy)]
 pub enum Target {
     Output(Stdout),
@@ -91,7 +91,7 @@ impl Sink {
         self.write(front(block, self.at))
     }
 
-    // Gives the sink with one byte more. A full block is written first.
+    // Gives the sink with one byte more. A full block is written first. It is no text of one, which would be copied as any other.
     // Tables: block holds what was put where it waits, and is else as before. Refusals: none; `failure` says whether a write has failed.
     pub fn put(self, block: &mut Block, byte: u8) -> Sink
         ensures place { result.at ≡ place_after self.at 1 }
@@ -150,7 +150,7 @@ impl Sink {
         flushed.write(text)
     }
 
-    // Gives the sink with a number more, in decimal.
+    // Gives the sink with a number more, in decimal. It asks for the room of its digits; `spell_decimal` has room, and is quicker.
     // Tables: block holds what was put where it waits, and is else as before. Refusals: none; `failure` says whether a write has failed.
     pub fn put_decimal(self, block: &mut Block, number: u64) -> Sink
         ensures place { result.at ≡ place_after self.at (length (decimal_text number)) }

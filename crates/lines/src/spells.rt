@@ -1,5 +1,5 @@
 // Texts, words and numbers spelled into a block from a place on: each gives the place behind it (02 a, c, j). Nobody asks for room here: who puts a line has asked once for
-// the whole of it, which each `requires` says. Meaning: specs/Spells.antt. Refusals: none.
+// the whole of it, which each `requires` says. Block and place are two, since a part of a line is spelled into a block that is lent from part to part. Meaning: specs/Spells.antt. Refusals: none.
 ghost use Rattle.std.specs.Prelude.{◌≡◌, [], ◌∷◌, ◌+◌, ◌%◌, ◌≤◌, ◌<◌, length};
 ghost use Rattle.io.specs.Digits.{last_digits, IsDigitCount};
 ghost use Rattle.lines.specs.Sinks.{block_bytes, put_at, digit_of, word_text, decimal_text};
@@ -63,7 +63,7 @@ pub fn spell_word(block: &mut Block, at: usize, word: u16) -> usize
     spell_text(block, at, &digits)
 }
 
-// Gives how many decimal digits a number has, 1 to 20.
+// Gives how many decimal digits a number has, 1 to 20: `ilog10` would divide.
 fn count_digits(number: u64) -> usize
     ensures count { IsDigitCount 10 1 number result }
     ensures most { result ≤ 20 }

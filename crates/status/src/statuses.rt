@@ -22,7 +22,7 @@ impl Status {
         Status::Failed
     }
 
-    // Gives the status of a part and what came before it: what went wrong stays so.
+    // Gives the status of a part and what came before it: what went wrong stays so. This is no derived order: of two that went wrong the first stays.
     // Tables: none. Refusals: none.
     pub fn after(self, before: Status) -> Status
         ensures status { result ≡ worse_of before self }

@@ -1,4 +1,5 @@
 // The lines that close a log, and those of a saving: what was skipped, and how it ended (02 a, c; docs/LINES.md). Meaning: specs/Logs.antt, specs/Saves.antt. Refusals: none.
+// Each `put_` asks for room, spells and ends its line in three statements: a type for each line and a trait over them would be longer.
 ghost use Rattle.std.specs.Prelude.{◌≡◌, ◌+◌, ◌≤◌};
 ghost use Rattle.lines.specs.Sinks.{Goes, block_bytes};
 ghost use Rattle.lines.specs.Spells.{Spelled, place_after_line, block_after_line};

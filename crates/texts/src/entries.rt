@@ -1,9 +1,9 @@
 // The line of an entry (02 a and i; docs/LINES.md): "Each entry has bus, time, command words, statuses .., numbers of valid data words and of records, the gap before the first
 // status, and the verdict". Meaning: specs/Entries.antt. Inner leaves, each with the most bytes that it takes. Refusals: none.
-ghost use Rattle.std.specs.Prelude.{◌+◌, ◌≤◌, Some, length};
-ghost use Rattle.lines.specs.Sinks.{block_bytes};
+ghost use Rattle.std.specs.Prelude.{◌+◌, ◌≤◌, ◌∷◌, ◌++◌, Some, length};
+ghost use Rattle.lines.specs.Sinks.{block_bytes, word_text};
 ghost use Rattle.lines.specs.Spells.{Spelled};
-ghost use Rattle.texts.specs.Entries.{bus_text, begin_text, pair_text, commands_text, statuses_text, gap_text, verdict_name, outcome_text, counts_text, message_text, single_text};
+ghost use Rattle.texts.specs.Entries.{bus_text, begin_text, commands_text, statuses_text, gap_text, verdict_name, outcome_text, counts_text, message_text, single_text};
 ghost use Rattle.texts.specs.Entries.{address_text, direction_text, kind_text, fields_text, all_fields_text};
 
 use lines::{Block, spell_byte, spell_decimal, spell_number, spell_text, spell_word};
@@ -14,7 +14,7 @@ use words::{CommandWord, Moment};
 
 const BUS_A: u8 = 0;
 
-// Spells a bus.
+// Spells a bus: any number is taken, and what is not A is B.
 fn spell_bus(block: &mut Block, at: usize, bus: u8) -> usize
     requires { at + 2 ≤ block_bytes }
     ensures text { Spelled block.old at (bus_text bus) block.new result }
@@ -36,14 +36,20 @@ fn spell_begin(block: &mut Block, at: usize, time: Moment, bus: u8) -> usize
     spell_bus(block, timed, bus)
 }
 
-// Spells two words, a comma between them.
-fn spell_pair(block: &mut Block, at: usize, first: u16, second: u16) -> usize
+// Spells two words, a byte between them.
+pub(crate) fn spell_pair(
+    block: &mut Block,
+    at: usize,
+    first: u16,
+    between: u8,
+    second: u16,
+) -> usize
     requires { at + 9 ≤ block_bytes }
-    ensures text { Spelled block.old at (pair_text first second) block.new result }
+    ensures text { Spelled block.old at (word_text first ++ (between ∷ word_text second)) block.new result }
     ensures most { result ≤ at + 9 }
 {
     let begun = spell_word(block, at, first);
-    let parted = spell_byte(block, begun, b',');
+    let parted = spell_byte(block, begun, between);
     spell_word(block, parted, second)
 }
 
@@ -54,7 +60,7 @@ fn spell_commands(block: &mut Block, at: usize, commands: Commands) -> usize
 {
     match commands {
         Commands::One(first) => spell_word(block, at, first.0),
-        Commands::Two(first, second) => spell_pair(block, at, first.0, second.0),
+        Commands::Two(first, second) => spell_pair(block, at, first.0, b',', second.0),
     }
 }
 
@@ -71,7 +77,7 @@ fn spell_statuses(block: &mut Block, at: usize, statuses: Statuses) -> usize
         }
         Statuses::Two(first, second) => {
             let begun = spell_text(block, at, b" st=");
-            spell_pair(block, begun, first.0, second.0)
+            spell_pair(block, begun, first.0, b',', second.0)
         }
     }
 }

@@ -52,7 +52,7 @@ fn spell_flaws(
     spell_flaw(block, fourth, false, !(three | sync), b"-")
 }
 
-// Spells why a word is not valid.
+// Spells why a word is not valid: of a record any numbers are taken, as records has them.
 pub(crate) fn spell_bad(block: &mut Block, at: usize, heard: WordRecord) -> usize
     requires { at + 34 ≤ block_bytes }
     ensures text { Spelled block.old at (bad_text heard) block.new result }

@@ -1,10 +1,12 @@
 // The lines of a schedule: its messages, its frames, and how the check ended (02 j; docs/LINES.md). Meaning: specs/Schedules.antt. Refusals: none.
+// Each `put_` asks for room, spells and ends its line in three statements: a type for each line and a trait over them would be longer.
 ghost use Rattle.std.specs.Prelude.{◌≡◌, ◌+◌, ◌≤◌};
 ghost use Rattle.lines.specs.Sinks.{Goes, block_bytes};
 ghost use Rattle.lines.specs.Spells.{Spelled, place_after_line, block_after_line};
 ghost use Rattle.texts.specs.Entries.{line_of};
 ghost use Rattle.texts.specs.Schedules.{brief_text, words_text, planned_text, slot_text, frame_text, closing_text};
 
+use crate::entries::spell_pair;
 use lines::{Block, LINE_MOST, Sink, spell_byte, spell_number, spell_text, spell_word};
 use schedule::Message;
 use words::Refusal;
@@ -37,12 +39,10 @@ pub(crate) fn spell_words(block: &mut Block, at: usize, between: u8, message: Me
     ensures text { Spelled block.old at (words_text between message) block.new result }
     ensures most { result ≤ at + 9 }
 {
-    let begun = spell_word(block, at, message.first.0);
     if message.commands == 1 {
-        return begun;
+        return spell_word(block, at, message.first.0);
     }
-    let parted = spell_byte(block, begun, between);
-    spell_word(block, parted, message.second.0)
+    spell_pair(block, at, message.first.0, between, message.second.0)
 }
 
 // Spells the command words and the period of a message.
