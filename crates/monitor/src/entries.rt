@@ -151,7 +151,7 @@ impl Commands {
 }
 
 impl Statuses {
-    // Says whether one of the statuses is from that address.
+    // Says whether one of the statuses is from that address. The same is asked of the commands above: one trait over both words would be longer than the two.
     #[tactic(auto, unfolding(crate::specs::Entries::is_from))]
     pub(crate) fn is_from(self, address: u16) -> bool
         ensures answer { result ≡ is_from self address }

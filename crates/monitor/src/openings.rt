@@ -82,6 +82,7 @@ impl Heads {
     }
 }
 
+// What is changed of a message is set in a copy: written as an update of `self` a log took 4 % more instructions.
 impl Opening {
     // Gives the message that a command word opens.
     #[tactic(auto, unfolding(crate::specs::Machine::opened_by))]
@@ -160,11 +161,10 @@ impl Opening {
     fn hear_second(self, heard: WordRecord) -> Opening
         ensures opening { result ≡ heard_second self heard }
     {
-        Opening {
-            heads: self.heads.with_second(CommandWord(heard.word)),
-            left: 0,
-            ..self
-        }
+        let mut next = self;
+        next.heads = self.heads.with_second(CommandWord(heard.word));
+        next.left = 0;
+        next
     }
 
     // A status, and before the first one the gap.
@@ -172,10 +172,9 @@ impl Opening {
     fn hear_status(self, heard: WordRecord) -> Opening
         ensures opening { result ≡ heard_status self heard }
     {
-        Opening {
-            heads: self.heads.with_status(self.last, heard),
-            ..self
-        }
+        let mut next = self;
+        next.heads = self.heads.with_status(self.last, heard);
+        next
     }
 
     // A record where one of the controller's own data words is to come.
@@ -184,11 +183,10 @@ impl Opening {
         ensures opening { result ≡ heard_own self heard }
     {
         let good = is_data_word(heard) & words::is_spaced(self.last, heard.time);
-        Opening {
-            left: self.left.saturating_sub(1),
-            spoiled: self.spoiled | !good,
-            ..self
-        }
+        let mut next = self;
+        next.left = self.left.saturating_sub(1);
+        next.spoiled = self.spoiled | !good;
+        next
     }
 
     // A returned record: it is looked at as long as none before it showed a fact.
@@ -221,13 +219,12 @@ impl Opening {
     fn count(self, heard: WordRecord) -> Opening
         ensures opening { result ≡ counted self heard }
     {
-        Opening {
-            records: self.records.wrapping_add(1),
-            words: self.words.wrapping_add(data_words(heard)),
-            twins: self.twins | (heard.time == self.last),
-            last: heard.time,
-            ..self
-        }
+        let mut next = self;
+        next.records = self.records.wrapping_add(1);
+        next.words = self.words.wrapping_add(data_words(heard));
+        next.twins = self.twins | (heard.time == self.last);
+        next.last = heard.time;
+        next
     }
 
     // Gives the message with a record that belongs to it.

@@ -1,6 +1,7 @@
 // One bus's walk over the records of a file, by value: which entry of that bus stands open, and how far the file is read (02 a).
 // Meaning: specs/Machine.antt. Refusals: 3, 4, 5, 6 of a record.
-ghost use Rattle.std.specs.Prelude.{◌≡◌};
+ghost use Rattle.std.specs.Prelude.{◌≡◌, Some};
+ghost use Rattle.monitor.specs.declared.walks.Standing.TheVariants as standing;
 ghost use Rattle.monitor.specs.Machine.{walk_start, standing_from, found_at, begun_with, passed_with, heard_message, heard_by, stopped_by, taken_by, read_by};
 
 use crate::entries::{Entry, Logged, is_command};
@@ -15,7 +16,7 @@ pub enum Standing {
     Message(Opening),
 }
 
-// One bus's walk: how many records of the file were read, of either bus, and the time of the last; what stands open, nothing before the bus's
+// One bus's walk, any number's: how many records of the file were read, of either bus, and the time of the last; what stands open, nothing before the bus's
 // first record, and the place of its first.
 #[derive(Clone, Copy)]
 pub struct Walk {
@@ -117,7 +118,14 @@ impl Walk {
         }
     }
 
-    // Gives the walk after a record of its bus, with a message open.
+    // Gives the walk with a record that belongs to the message that stands open.
+    fn pass_in(self, opening: Opening, heard: WordRecord) -> Side
+        ensures side { result ≡ passed_with self (Some (standing.Message opening)) heard }
+    {
+        self.pass(Some(Standing::Message(opening)), heard)
+    }
+
+    // Gives the walk after a record of its bus, with a message open. Each part is named where it is joined: one arm for the three took 4 % more instructions.
     #[tactic(auto, unfolding(crate::specs::Machine::heard_message))]
     fn hear_in(self, opening: Opening, heard: WordRecord) -> Side
         ensures side { result ≡ heard_message self opening heard }
@@ -125,7 +133,9 @@ impl Walk {
         match opening.part(heard) {
             Part::Far => self.begin(opening.last.plus(Ticks::NO_RESPONSE_DISTANCE), heard),
             Part::Starts => self.begin(heard.time, heard),
-            part => self.pass(Some(Standing::Message(opening.join(part, heard))), heard),
+            Part::Second => self.pass_in(opening.join(Part::Second, heard), heard),
+            Part::Status => self.pass_in(opening.join(Part::Status, heard), heard),
+            Part::Other => self.pass_in(opening.join(Part::Other, heard), heard),
         }
     }
 
