@@ -7,7 +7,7 @@ use records::{RECORD_BYTES, WordRecord};
 // "a byte buffer of 65,536 bytes, room for 4,096 records"
 const BUFFER_BYTES: usize = 65536;
 
-// The bytes and how many of them count. What stands behind those is nothing: a text that is no bytes may leave some there.
+// The bytes and how many of them count: the memory is fixed. What stands behind those is nothing: a text that is no bytes may leave some there.
 #[derive(Drop)]
 pub(crate) struct Buffer {
     bytes: [u8; BUFFER_BYTES],

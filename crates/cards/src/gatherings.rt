@@ -12,7 +12,7 @@ enum Kind {
 // the longest line that is kept
 const LINE_BYTES: usize = 262144;
 
-// The line so far. One that fills it is longer than any call.
+// The line so far. One that fills it is longer than any call. Its memory is fixed, so that its length stands beside it.
 #[derive(Drop)]
 pub(crate) struct Line {
     bytes: [u8; LINE_BYTES],

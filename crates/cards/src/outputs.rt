@@ -21,7 +21,7 @@ impl Output {
         self.sink = self.sink.put_name(&mut self.block, name);
     }
 
-    // Writes what waits. Gives the system's number for why a write has failed, this one or one before it.
+    // Writes what waits. Gives the system's number for why a write has failed, this one or one before it, as `complain` takes it.
     pub(crate) fn flush(&mut self) -> Result<(), i32> {
         self.sink = self.sink.flush(&self.block);
         match self.sink.failure {

@@ -62,7 +62,8 @@ impl Script {
         let _ = self.put(answer, bench);
     }
 
-    // Writes the lines that wait. Where that fails, or failed before, it is said; nothing is read after it, so once.
+    // Writes the lines that wait. Where that fails, or a put before it did, of which `flush_told` says nothing, it is said; nothing is read after
+    // it, so once.
     fn flush(&mut self) -> Result<(), Failed> {
         match self.out.flush() {
             Ok(()) => Ok(()),

@@ -13,7 +13,8 @@ pub(crate) fn first_terminal() -> Terminal {
     Terminal::fresh(Setup::build(5, [0xFFFF_FFFF; 32], [0xFFFF_FFFF; 32]))
 }
 
-// Hands an event to a terminal with so many words of the tables as are lent.
+// Hands an event to a terminal with so many words of the tables as are lent. soak does that on a bench of its own: one for both would be a
+// library of four lines.
 fn hand(terminal: Terminal, event: Event, receive: &mut Table, transmit: &Table) -> Happened {
     let into = receive.lent.min(LENT_WORDS_MOST);
     let from = transmit.lent.min(LENT_WORDS_MOST);
@@ -23,6 +24,7 @@ fn hand(terminal: Terminal, event: Event, receive: &mut Table, transmit: &Table)
 impl Bench {
     // word, mark
     pub(crate) fn happen(&mut self, event: Event) -> Result<Reply, Problem> {
+        // read before the tables are lent
         let terminal = self.terminal;
         let happened = hand(terminal, event, &mut self.receive, &self.transmit);
         if let Some(refusal) = happened.refusal {
