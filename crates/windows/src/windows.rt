@@ -67,7 +67,8 @@ impl Window {
         }
     }
 
-    // Moves the bytes that wait to the front of the room, so that all behind them is free.
+    // Moves the bytes that wait to the front of the room, so that all behind them is free. Begin and end are found as in `bytes`, in two lines: as a range of a function's
+    // own they would be taken apart again.
     // Tables: room has the bytes that wait at its front, and is else as before. Refusals: none.
     pub fn make_room(self, room: &mut [u8]) -> Window
         ensures window { result ≡ front_window self room.old }
