@@ -241,7 +241,7 @@ impl Opening {
     }
 
     // Gives the verdict of a message that the controller listened to up to Q, or none.
-    #[tactic(auto, unfolding(crate::specs::Machine::outcome_of, verdict::specs::Verdicts::finish_of))]
+    #[tactic(auto, unfolding(crate::specs::Machine::outcome_of))]
     fn outcome(self, until: Moment) -> Option<Verdict>
         ensures outcome { result ≡ outcome_of self until }
     {
@@ -249,10 +249,7 @@ impl Opening {
         if self.spoiled | self.twins | (self.left != 0) | !plan.is_possible() {
             return None;
         }
-        Some(
-            self.found
-                .unwrap_or_else(|| plan.finish(self.returned, self.last)),
-        )
+        Some(plan.finish(self.found, self.returned, self.last))
     }
 
     // Gives the entry of the message, which the controller listened to up to Q.

@@ -1,5 +1,5 @@
 -- What holds of verdicts beyond each function's own promise, proved in proofs/ under the name at its side. Assumes nothing.
-use Rattle.std.specs.Prelude.{ℕ, suc, ◌≤◌, ◌≡◌, Bool, true, false, ◌||◌, List, [], ◌∷◌, ◌⊎◌, eqb, ltb, length, take, Option, Some, None, Ok}
+use Rattle.std.specs.Prelude.{ℕ, suc, ◌≤◌, ◌≡◌, Bool, true, false, ◌||◌, List, [], ◌∷◌, ◌⊎◌, eqb, ltb, length, take, Option, None, Ok}
 use Rattle.words.specs.Words.{on_clock, since_of, gap_of, is_spaced, address_of, has_flag, is_valid, command_sync, data_sync}
 use Rattle.words.specs.Refusals.{not_refused}
 use Rattle.words.specs.declared.times.Moment.{Moment}

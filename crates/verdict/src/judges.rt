@@ -1,6 +1,6 @@
 // The verdict on a plan: the returned records checked and judged in one walk (01 Controller verdicts). Meaning: specs/Verdicts.antt.
 // Refusals: 7; 5 for bus, E, Q, Q below E; then record by record 3, 4, 5, 6.
-ghost use Rattle.std.specs.Prelude.{◌≡◌, None};
+ghost use Rattle.std.specs.Prelude.{◌≡◌};
 ghost use Rattle.verdict.specs.Facts.{fact_of};
 ghost use Rattle.verdict.specs.Verdicts.{expected_at, sent_first, record_checks, finish_of, returned_of, decide, judged_of};
 
@@ -53,13 +53,17 @@ impl Plan {
         self.fact_at(place, last, heard)
     }
 
-    // Gives the verdict where no record shows a fact: what the plan says where none is left after so many, the last at that moment.
+    // Gives the verdict: the fact that was found, or where none was, what the plan says where no record is left after so many, the last at that
+    // moment.
     // Tables: none. Refusals: none; a plan is taken as it is.
     #[tactic(auto, unfolding(crate::specs::Verdicts::finish_of))]
-    pub fn finish(self, place: u64, last: Moment) -> Verdict
-        ensures verdict { result ≡ finish_of self None place last.0 }
+    pub fn finish(self, found: Option<Verdict>, place: u64, last: Moment) -> Verdict
+        ensures verdict { result ≡ finish_of self found place last.0 }
     {
-        end_of(self.expected(place), last, self.until)
+        match found {
+            Some(fact) => fact,
+            None => end_of(self.expected(place), last, self.until),
+        }
     }
 
     // Gives the verdict on the returned records of a plan that is not refused, or the first refusal among them. The checks run to the last
@@ -80,7 +84,7 @@ impl Plan {
             }
             last = heard.time;
         }
-        let verdict = found.unwrap_or_else(|| self.finish(looked, last));
+        let verdict = self.finish(found, looked, last);
         // No plan, possible or not, expects more than 66 records: the number fits.
         Ok(Finding {
             verdict,

@@ -6,7 +6,7 @@ use Rattle.std.proofs.lemmas.Result.{err_from_is_err_and}
 use Rattle.std.specs.Prelude.{true, false, is_none, length, Ok}
 use Rattle.std.specs.Slice.Iter.{chunks_rest}
 use Rattle.verdict.proofs.Ranges.{looked_fits}
-use Rattle.verdict.specs.Verdicts.{returned_of, finding, finish_of}
+use Rattle.verdict.specs.Verdicts.{returned_of, finding}
 use Rattle.verdict.specs.declared.verdicts.Verdict.{Verdict}
 use Rattle.verdict.proofs.Walks.{start, stop, next_of, unread, refused, look_on, pass_on}
 use Rattle.verdict.proofs.plans.Plan.walk.Goals as goal
@@ -58,8 +58,9 @@ overflow_cast-result c =
     omega (arith, looked_fits c.args.self (returned_of c.args.self c.args.records.now) _ (stop _ _ _ _ _ _ c.loop-bytes.invariant.left empty))
 
 pub returns : goal.returns
-unfolding finish_of
 returns c =
-    let same : c.unwrap_or_else-verdict.result ≡ finish_of c.args.self c.loop-bytes.found c.loop-bytes.looked c.loop-bytes.last.0 = search rules in
     let empty : length (chunks_rest c.loop-bytes.bytes-iterator) ≡ 0 = c.in-None.ensures.steps.1.0 in
-    record { judged = ap (λ (v : Verdict). Ok (finding v c.loop-bytes.looked)) same ∙ stop _ _ _ _ _ _ c.loop-bytes.invariant.left empty }
+    record {
+      judged = ap (λ (v : Verdict). Ok (finding v c.loop-bytes.looked)) c.finish-verdict.ensures.verdict
+          ∙ stop _ _ _ _ _ _ c.loop-bytes.invariant.left empty;
+    }
