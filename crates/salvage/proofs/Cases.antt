@@ -1,16 +1,16 @@
 -- The cases of the machine's steps, each from the facts that the code's tests give. Assumes nothing.
-use Rattle.std.proofs.Common.{◌≡◌, ℕ, zero, suc, ◌+◌, ◌-◌, ◌/◌, ◌≤◌, Bool, true, false, List, [], ◌∷◌, length, get_or, take, drop, cond, eqb, sym, refl, ap, ◌∙◌, arith, length-take, take_all, eq-eqb, ne_eqb}
+use Rattle.std.proofs.Common.{◌≡◌, ℕ, zero, suc, ◌+◌, ◌-◌, ◌/◌, ◌≤◌, Bool, true, List, [], ◌∷◌, length, get_or, take, drop, cond, eqb, sym, refl, ap, ◌∙◌, arith, length-take, take_all, eq-eqb, ne_eqb}
 use Rattle.words.specs.declared.refusals.Refusal.{Refusal}
 use Rattle.words.specs.declared.times.Moment.{Moment}
-use Rattle.std.specs.Prelude.{Option, Some, None, Result, Ok, Err}
+use Rattle.std.specs.Prelude.{Option, Some, None, Result, Ok}
 use Rattle.records.specs.Records.{last_bus, read_of}
 use Rattle.records.specs.declared.forms.WordRecord.{WordRecord}
-use Rattle.windows.specs.Windows.{count_of, filled_of, filled_room}
+use Rattle.windows.specs.Windows.{filled_of, filled_room}
 use Rattle.windows.specs.declared.windows.Filled.{Filled}
 use Rattle.windows.proofs.Waiting.{filled_few}
 use Rattle.words.specs.Counts.{sum64}
 use Rattle.salvage.specs.Pieces.{in_time, choice_of, after_first, first_of, first_in, run_in, run_list, listed}
-use Rattle.salvage.specs.Machine.{place_by, place_of, settled_kept, settled_skipped, run_ended, gathered_of, one_more, begun_of, fed_by, fed_of, behind_first, room_of, is_settled_of, size_of, totals_of, ended_of}
+use Rattle.salvage.specs.Machine.{settled_kept, run_ended, gathered_of, one_more, begun_of, fed_by, fed_of, behind_first, room_of}
 use Rattle.salvage.specs.declared.stretches.Stretch.{Stretch}
 use Rattle.salvage.specs.declared.salvages.First.{First}
 use Rattle.salvage.specs.declared.salvages.First.TheVariants.{Missing, Kept, Changed}
@@ -18,7 +18,6 @@ use Rattle.salvage.specs.declared.salvages.Run.{Run}
 use Rattle.salvage.specs.declared.salvages.Settled.{Settled}
 use Rattle.salvage.specs.declared.salvages.Salvage.{Salvage}
 use Rattle.salvage.specs.declared.salvages.Fed.{Fed}
-use Rattle.salvage.specs.declared.salvages.Totals.{Totals}
 
 -- ---- what becomes of the bytes at a place; g is what the code read
 
@@ -26,18 +25,6 @@ module _ (last : Option Moment) (s : List ℕ) (g : Result WordRecord Refusal) (
   pub choice_kept : (r : WordRecord) (b : Bool) → g ≡ Ok r → b ≡ in_time last r.time.0 → b ≡ true → Some r.time ≡ choice_of last s
   unfolding choice_of
   choice_kept r b q t h = rw (← e, q, ← t, h)
-
-  pub place_refused : (n : Refusal) → g ≡ Err n → Err 0 ≡ place_of last s
-  unfolding place_of
-  place_refused n q = ap (place_by last) (sym q ∙ e)
-
-  pub place_kept : (r : WordRecord) (b : Bool) → g ≡ Ok r → b ≡ in_time last r.time.0 → b ≡ true → Ok r.time ≡ place_of last s
-  unfolding place_of
-  place_kept r b q t h = rw (← e, q, ← t, h)
-
-  pub place_late : (r : WordRecord) (b : Bool) → g ≡ Ok r → b ≡ in_time last r.time.0 → b ≡ false → Err 1 ≡ place_of last s
-  unfolding place_of
-  place_late r b q t h = rw (← e, q, ← t, h)
 
 -- ---- what is settled
 
@@ -151,22 +138,3 @@ module _ (s : Salvage) (room chunk : List ℕ) (f : First) (h : s.first ≡ f) w
   pub room_by : {room' : List ℕ} → room' ≡ filled_room s.window room (behind_first f chunk) → room' ≡ room_of s room chunk
   unfolding room_of
   room_by e = e ∙ sym (ap (λ (x : First). filled_room s.window room (behind_first x chunk)) h)
-
-pub size_by : (first : First) (run : Run) (n : ℕ) (f : First) → first ≡ f → n ≡ size_of f run → n ≡ size_of first run
-size_by first run n f h e = e ∙ sym (ap (λ (x : First). size_of x run) h)
-
--- ---- the end
-
-pub totals : (s : Salvage) (after : Settled) (n bytes : ℕ) (run : Option Run) → n ≡ count_of s.window → after ≡ settled_skipped s.settled n → bytes ≡ size_of s.first after.run → run ≡ run_in after.run
-    → record { first = s.first; run = run; records = after.records; skipped = after.skipped; bytes = bytes } ≡ totals_of s
-unfolding totals_of
-totals s after n bytes run w a b r = rw (r, b, a, w)
-
-module _ (s : Salvage) (b : Bool) (e : b ≡ is_settled_of s) where
-  pub whole : (t : Totals) → b ≡ true → t ≡ totals_of s → Some t ≡ ended_of s
-  unfolding ended_of
-  whole t h q = rw (← e, h, q)
-
-  pub early : b ≡ false → None ≡ ended_of s
-  unfolding ended_of
-  early h = rw (← e, h)

@@ -76,9 +76,6 @@ stays_none : (last : Option Moment) → Stays last []
 unfolding pieces_from
 stays_none last = record { bytes = refl; no_run = λ place. refl }
 
-not_whole : (n : Refusal) (rs : List WordRecord) → stops n ≡ whole rs → ⊥
-not_whole n rs h = let z : ◌≡◌ {A = ℕ} 0 1 = cc in omega arith
-
 -- a record at the front that is in time
 stays_kept : (last : Option Moment) (s : List ℕ) (r : WordRecord) → read_of last_bus s ≡ Ok r → in_time last r.time.0 ≡ true → Stays (Some r.time) (drop 16 s) → Stays last s
 stays_kept last s r e h rest =
@@ -99,8 +96,8 @@ stays_by (suc n) last (x ∷ s) rs l w order =
   where
     by : (g : Result WordRecord Refusal) (v : Walk) (rs : List WordRecord) → read_of last_bus (x ∷ s) ≡ g → walk_from last_bus n (drop 16 (x ∷ s)) ≡ v → InOrder last rs → go_on g v ≡ whole rs
         → ((m : Moment) (ts : List WordRecord) → walk_from last_bus n (drop 16 (x ∷ s)) ≡ whole ts → InOrder (Some m) ts → Stays (Some m) (drop 16 (x ∷ s))) → Stays last (x ∷ s)
-    by (Err k) v rs e f o q rest = absurd (not_whole k rs q)
-    by (Ok r) (stops k) rs e f o q rest = absurd (not_whole k rs q)
+    by (Err k) v rs e f o q rest = absurd cc
+    by (Ok r) (stops k) rs e f o q rest = absurd cc
     by (Ok r) (whole ts) rs e f o q rest =
         let all : rs ≡ r ∷ ts = cc in
         let both : InOrder last (r ∷ ts) = subst (InOrder last) all o in
@@ -113,11 +110,11 @@ unfolding version_of clean_of runs_of pieces_of changed_of
 unchanged_by x s rs true e w order =
     let stays = stays_by (suc (length s)) None s rs (omega arith) w order in
     record { same = ap₂ ◌∷◌ (sym (eqb-true x 1 e)) stays.bytes; no_run = stays.no_run 1; first_kept = rw e }
-unchanged_by x s rs false e w order = absurd (not_whole WrongVersion rs w)
+unchanged_by x s rs false e w order = absurd cc
 
 pub whole_file_kept : WholeFileKept
 unfolding walk_of open_of
-whole_file_kept [] rs w order = absurd (not_whole WrongVersion rs w)
+whole_file_kept [] rs w order = absurd cc
 whole_file_kept (x ∷ s) rs w order = unchanged_by x s rs (eqb x 1) refl w order
 
 pub saved_again : SavedAgain

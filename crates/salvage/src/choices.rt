@@ -10,11 +10,12 @@ use words::{Moment, Ticks};
 const STEP_MOST: Ticks = Ticks(100_000_000);
 
 // Says whether a record of that time may be kept behind the one that was kept last, of either bus: "(the first kept may have any time)".
+#[tactic(auto, using(words::proofs::Orders::le_test))]
 fn allows(last: Option<Moment>, time: Moment) -> bool
     ensures answer { result ≡ in_time last time.0 }
 {
     match last {
-        Some(before) => (before.0 <= time.0) & (time.since(before).0 <= STEP_MOST.0),
+        Some(before) => (before <= time) & (time.since(before) <= STEP_MOST),
         None => true,
     }
 }

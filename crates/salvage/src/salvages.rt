@@ -36,6 +36,7 @@ impl First {
 
     // Gives the version byte of the clean file, which goes before the bytes to keep.
     // Tables: none. Refusals: none.
+    #[tactic(auto, unfolding(crate::specs::Pieces::version_of))]
     pub fn version(self) -> u8
         ensures version { result ≡ version_of self }
     {
@@ -44,14 +45,11 @@ impl First {
 
     // Says whether the first byte is listed as changed.
     // Tables: none. Refusals: none.
+    #[tactic(auto, unfolding(crate::specs::Machine::is_changed))]
     pub fn is_changed(self) -> bool
         ensures answer { result ≡ is_changed self }
     {
-        match self {
-            First::Missing => true,
-            First::Kept => false,
-            First::Changed => true,
-        }
+        !matches!(self, First::Kept)
     }
 }
 
@@ -125,6 +123,7 @@ impl Run {
 
 impl Settled {
     // Gives what is settled with a stretch of records more.
+    #[tactic(auto, unfolding(crate::specs::Machine::settled_kept))]
     fn keep(self, stretch: Stretch) -> Settled
         ensures settled { result ≡ settled_kept self stretch }
     {
@@ -132,11 +131,10 @@ impl Settled {
             return self;
         }
         let records = stretch.bytes / RECORD_BYTES;
-        let last = stretch.last;
         let end = wrapping_add_u64(self.run.place, self.run.length);
         let place = wrapping_add_u64(end, stretch.bytes as u64);
         Settled {
-            last,
+            last: stretch.last,
             run: Run { place, length: 0 },
             records: wrapping_add_u64(self.records, records as u64),
             skipped: self.skipped,
@@ -159,26 +157,26 @@ impl Settled {
     }
 
     // Gives the run that a stretch of records ends.
+    #[tactic(auto, unfolding(crate::specs::Machine::run_ended))]
     fn ended(self, stretch: Stretch) -> Option<Run>
         ensures run { result ≡ run_ended self stretch }
     {
         if stretch.bytes == 0 {
             return None;
         }
-        let run = self.run;
-        run.some()
+        self.run.some()
     }
 }
 
 // Gives the size of the file at whose end the run stands.
+#[tactic(auto, unfolding(crate::specs::Machine::size_of))]
 fn file_size(first: First, run: Run) -> u64
     ensures bytes { result ≡ size_of first run }
 {
     let size = wrapping_add_u64(run.place, run.length);
     match first {
         First::Missing => 0,
-        First::Kept => size,
-        First::Changed => size,
+        First::Kept | First::Changed => size,
     }
 }
 
@@ -208,15 +206,12 @@ impl Salvage {
         ensures fed { result ≡ gathered_of self first room.old chunk.now }
         ensures room { room.new ≡ filled_room self.window room.old chunk.now }
     {
-        let before = self.window;
-        let filled = before.fill(room, chunk);
-        let settled = self.settled;
-        let window = filled.window;
+        let filled = self.window.fill(room, chunk);
         Fed {
             salvage: Salvage {
                 first,
-                settled,
-                window,
+                settled: self.settled,
+                window: filled.window,
             },
             taken: filled.taken,
         }
@@ -231,9 +226,8 @@ impl Salvage {
             return self.gather(First::Missing, room, chunk);
         }
         let fed = self.gather(First::of(chunk), room, &chunk[1..]);
-        let salvage = fed.salvage;
         Fed {
-            salvage,
+            salvage: fed.salvage,
             taken: fed.taken + 1,
         }
     }
@@ -245,8 +239,8 @@ impl Salvage {
         ensures fed { result ≡ fed_of self room.old chunk.now }
         ensures room { room.new ≡ room_of self room.old chunk.now }
     {
-        let first = self.first;
-        match first {
+        // each state has an arm, as it has a line in the definition
+        match self.first {
             First::Missing => self.begin(room, chunk),
             First::Kept => self.gather(First::Kept, room, chunk),
             First::Changed => self.gather(First::Changed, room, chunk),
@@ -262,17 +256,14 @@ impl Salvage {
         let window = self.window;
         let waiting = window.bytes(room);
         let before = self.settled;
-        let last = before.last;
-        let stretch = keep_stretch(last, waiting);
-        let kept = stretch.last;
+        let stretch = keep_stretch(before.last, waiting);
         let behind = stretch.bytes;
-        let skipped = skip_stretch(kept, &waiting[behind..]);
+        let skipped = skip_stretch(stretch.last, &waiting[behind..]);
         let after = window.after(behind + skipped.bytes);
         let settled = before.keep(stretch).skip(skipped.bytes as u64);
-        let first = self.first;
         Progress {
             salvage: Salvage {
-                first,
+                first: self.first,
                 settled,
                 window: after,
             },
@@ -285,34 +276,32 @@ impl Salvage {
 
     // Says whether everything that can be settled is: fewer than 16 bytes wait.
     // Tables: none. Refusals: none.
+    #[tactic(auto, unfolding(crate::specs::Machine::is_settled_of))]
     pub fn is_settled(self) -> bool
         ensures answer { result ≡ is_settled_of self }
     {
-        let window = self.window;
-        window.count() < RECORD_BYTES
+        self.window.count() < RECORD_BYTES
     }
 
     // Gives what the file came to, where the bytes that wait are skipped.
+    #[tactic(auto, unfolding(crate::specs::Machine::totals_of))]
     fn total(self) -> Totals
         ensures totals { result ≡ totals_of self }
     {
-        let first = self.first;
-        let settled = self.settled;
-        let window = self.window;
-        let after = settled.skip(window.count() as u64);
-        let run = after.run;
+        let after = self.settled.skip(self.window.count() as u64);
         Totals {
-            first,
-            run: run.some(),
+            first: self.first,
+            run: after.run.some(),
             records: after.records,
             skipped: after.skipped,
-            bytes: file_size(first, run),
+            bytes: file_size(self.first, after.run),
         }
     }
 
     // Gives what the file came to, where it has no more bytes: those that wait are skipped. While 16 or more wait, it is too early. Whether more of the file would
     // come the caller alone knows.
     // Tables: none. Refusals: none.
+    #[tactic(auto, unfolding(crate::specs::Machine::ended_of))]
     pub fn end(self) -> Option<Totals>
         ensures ended { result ≡ ended_of self }
     {

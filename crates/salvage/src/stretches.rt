@@ -19,16 +19,15 @@ pub(crate) fn keep_stretch(last: Option<Moment>, bytes: &[u8]) -> Stretch
 {
     let mut kept = last;
     let mut at = 0;
-    while RECORD_BYTES <= bytes.len() - at {
-        let end = at + RECORD_BYTES;
-        let Ok(time) = choose(kept, &bytes[at..end]) else {
+    for record in bytes.chunks_exact(RECORD_BYTES) {
+        let Ok(time) = choose(kept, record) else {
             return Stretch {
                 bytes: at,
                 last: kept,
             };
         };
         kept = Some(time);
-        at = end;
+        at += RECORD_BYTES;
     }
     Stretch {
         bytes: at,
@@ -49,9 +48,8 @@ pub(crate) fn skip_stretch(last: Option<Moment>, bytes: &[u8]) -> Skipped
 {
     let mut at = 0;
     let mut strays = 0;
-    while RECORD_BYTES <= bytes.len() - at {
-        let end = at + RECORD_BYTES;
-        let Err(stray) = choose(last, &bytes[at..end]) else {
+    for place in bytes.windows(RECORD_BYTES) {
+        let Err(stray) = choose(last, place) else {
             return Skipped { bytes: at, strays };
         };
         strays += stray;

@@ -1,10 +1,12 @@
--- The loop's invariant: what is left at the place, with the bytes so far, is what the whole gives. Assumes nothing.
-use Rattle.std.proofs.Common.{◌-◌, length}
+-- The loop's invariant: what is left of the bytes, with the bytes so far, is what the whole gives. Assumes nothing.
+use Rattle.std.proofs.Common.{◌≡◌, drop}
+use Rattle.std.specs.Slice.Iter.{chunks_exact_rest, chunks_exact_size}
 use Rattle.salvage.proofs.Loops.{Keeping}
 use Rattle.salvage.proofs.stretches.keep_stretch.Given as goal
 
-abbrev pub invariant-loop-at : goal.invariant-loop-at
-invariant-loop-at l = Keeping l.bytes l.initial.kept l.kept l.at
-
-abbrev pub decreases-loop-at : goal.decreases-loop-at
-decreases-loop-at l = length l.bytes - l.at
+abbrev pub invariant-loop-record : goal.invariant-loop-record
+invariant-loop-record l = record {
+  size : chunks_exact_size l.record-iterator ≡ 16;
+  left : chunks_exact_rest l.record-iterator ≡ drop l.at l.bytes;
+  keeping : Keeping l.bytes l.initial.kept l.kept l.at;
+}

@@ -1,10 +1,12 @@
--- The loop's invariant: what is left at the place, with the bytes so far, is what the whole gives. Assumes nothing.
-use Rattle.std.proofs.Common.{◌-◌, length}
+-- The loop's invariant: what is left of the bytes, with the bytes so far, is what the whole gives. Assumes nothing.
+use Rattle.std.proofs.Common.{◌≡◌, drop}
+use Rattle.std.specs.Slice.Iter.{windows_rest, windows_size}
 use Rattle.salvage.proofs.Loops.{Skipping}
 use Rattle.salvage.proofs.stretches.skip_stretch.Given as goal
 
-abbrev pub invariant-loop-at : goal.invariant-loop-at
-invariant-loop-at l = Skipping l.bytes l.last l.at l.strays
-
-abbrev pub decreases-loop-at : goal.decreases-loop-at
-decreases-loop-at l = length l.bytes - l.at
+abbrev pub invariant-loop-place : goal.invariant-loop-place
+invariant-loop-place l = record {
+  size : windows_size l.place-iterator ≡ 16;
+  left : windows_rest l.place-iterator ≡ drop l.at l.bytes;
+  skipping : Skipping l.bytes l.last l.at l.strays;
+}
