@@ -33,10 +33,6 @@ unfolding choice_of
 choice_front last s after l = ap (chosen last) (read_front last_bus s after l)
 
 -- so those alone decide
-pub choice_sixteen : (last : Option Moment) (s : List ℕ) → 16 ≤ length s → choice_of last (take 16 s) ≡ choice_of last s
-choice_sixteen last s l =
-    sym (choice_front last (take 16 s) (drop 16 s) (omega (arith, length-take-le 16 s l))) ∙ ap (choice_of last) (take-append-drop 16 s)
-
 pub place_sixteen : (last : Option Moment) (s : List ℕ) → 16 ≤ length s → place_of last (take 16 s) ≡ place_of last s
 unfolding place_of
 place_sixteen last s l =
