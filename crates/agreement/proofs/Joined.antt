@@ -1,7 +1,7 @@
 -- Which records a log puts into one message: data words back to back, a second command, and the statuses that its commands expect. Assumes nothing.
 use mathlib.Core.Path.{◌≡◌, refl, sym, ap, subst, ◌∙◌}
 use Prim.Native.Nat.{ℕ, suc, ◌+◌, ◌-◌, ◌≤◌, ◌<◌}
-use mathlib.Core.Bool.{Bool, true, false, not, cond, ◌&&◌}
+use mathlib.Core.Bool.{Bool, true, false, not, cond, ◌&&◌, and-false}
 use mathlib.Core.List.{List, [], ◌∷◌, ◌++◌, append-nil, append_assoc}
 use native.Mathlib.Omega.{arith}
 use lib.Dec.{eqb, leb}
@@ -10,7 +10,7 @@ use borrow.Author.Tests.{lt-ltb, le-ltb, lt-leb, ne_eqb}
 use Rattle.words.specs.Words.{is_spaced, is_valid, address_of, is_broadcast, due_distance, no_response_distance}
 use Rattle.words.specs.declared.times.Moment.{Moment}
 use Rattle.records.specs.declared.forms.WordRecord.{WordRecord}
-use Rattle.history.proofs.Tests.{true≢, cond_cases, and_false}
+use Rattle.history.proofs.Tests.{true≢, cond_cases}
 use Rattle.verdict.specs.Facts.{listened_least}
 use Rattle.monitor.specs.Entries.{is_command, is_data_word, is_second, commands_of, behind_of, statuses_in, statuses_of, is_for, is_from, expects, last_in, is_far, part_of}
 use Rattle.monitor.specs.Logs.{Group, Placed, part_in, belongs, closes_at, groups_from}
@@ -60,7 +60,7 @@ module _ (end : Moment) (place : ℕ) (first : WordRecord) where
 -- is no command
 pub data_not_command : (d : WordRecord) → is_data_word d ≡ true → is_command d ≡ false
 unfolding is_word
-data_not_command d h = rw (data_valid d h).1 (and_false (is_valid 1 d.faults d.word d.parity))
+data_not_command d h = rw (data_valid d h).1 (and-false (is_valid 1 d.faults d.word d.parity))
 
 module _ (bus : ℕ) (first : WordRecord) (command : is_command first ≡ true) where
   -- directly after the last record it belongs to the message
@@ -96,12 +96,12 @@ data_alone bus t first (d ∷ ds) spaced = rw (data_not_command d spaced.1)
 
 late_not_spaced : (before after : ℕ) → before + due_distance ≤ after → is_spaced before after ≡ false
 unfolding is_spaced
-late_not_spaced before after late = rw (lt-leb (after - before) 205 (omega (arith, late))) (and_false (leb 195 (after - before)))
+late_not_spaced before after late = rw (lt-leb (after - before) 205 (omega (arith, late))) (and-false (leb 195 (after - before)))
 
 -- a command as late as an answer is no second one
 pub late_alone : (first r : WordRecord) → first.time.0 + due_distance ≤ r.time.0 → is_second first r ≡ false
 unfolding is_second
-late_alone first r late = rw (late_not_spaced first.time.0 r.time.0 late, and_false (is_command r))
+late_alone first r late = rw (late_not_spaced first.time.0 r.time.0 late, and-false (is_command r))
 
 pub alone_commands : (first : WordRecord) (rest : List WordRecord) → Alone first rest → commands_of first rest ≡ One (record { 0 = first.word })
 alone_commands first [] alone = refl

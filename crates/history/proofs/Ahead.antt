@@ -1,7 +1,7 @@
 -- The next moment that the host is told is later than the last event: nothing is due by then, and no time is over. Assumes nothing.
 use mathlib.Core.Path.{◌≡◌, refl, sym, ap, ◌∙◌}
 use Prim.Native.Nat.{ℕ, ◌+◌, ◌≤◌}
-use mathlib.Core.Bool.{Bool, true, false, ◌&&◌}
+use mathlib.Core.Bool.{Bool, true, false, ◌&&◌, and-false}
 use mathlib.Core.List.{List, [], ◌∷◌}
 use mathlib.Core.Logic.{dite}
 use native.Mathlib.Nat.{lt_of_not-le}
@@ -24,7 +24,7 @@ use Rattle.terminal.specs.declared.events.Event.{Event}
 use Rattle.terminal.specs.declared.events.Event.TheVariants.{Mark, Word}
 use Rattle.history.specs.Calls.{Call, set_up, event, host, clear_selftest, restart, is_accepted, is_set_up, step, run, Past, after_past}
 use Rattle.history.specs.Demands.{ToldAhead}
-use Rattle.history.proofs.Tests.{true≢, false≢, cond_cases, and_false}
+use Rattle.history.proofs.Tests.{true≢, false≢, cond_cases}
 use Rattle.history.proofs.Steps.{stepped, accepts, refused_stays}
 use Rattle.history.proofs.Phases.{over_at_lem}
 use Rattle.history.proofs.Passing.{still, due_ends}
@@ -62,18 +62,18 @@ module _ (m : Message) (t : ℕ) (last : m.last.0 ≡ t) where
   last_due =
       ap (λ (n : ℕ). is_whole m && leb (n + due_distance) t) last
       ∙ ap (λ (b : Bool). is_whole m && b) (lt-leb (t + due_distance) t (omega arith))
-      ∙ and_false (is_whole m)
+      ∙ and-false (is_whole m)
 
   last_late : is_late m t ≡ false
   unfolding is_late
   last_late =
       ap (λ (n : ℕ). awaits_data m && ltb (n + spacing_most) t) last
       ∙ ap (λ (b : Bool). awaits_data m && b) (le-ltb (t + spacing_most) t (omega arith))
-      ∙ and_false (awaits_data m)
+      ∙ and-false (awaits_data m)
 
   last_over : t ≤ m.start.0 + first_word_distance → is_over m t ≡ false
   unfolding is_overdue
-  last_over soon = rw (last_late, le-ltb (m.start.0 + first_word_distance) t soon) (and_false (awaits_first m))
+  last_over soon = rw (last_late, le-ltb (m.start.0 + first_word_distance) t soon) (and-false (awaits_first m))
 
 begun_ahead : (r : WordRecord) → Ahead r.time.0 (begun_of r)
 unfolding begun_of

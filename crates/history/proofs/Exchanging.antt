@@ -1,7 +1,7 @@
 -- A message between terminals, within the limits, is answered as any other. Assumes nothing.
 use mathlib.Core.Path.{◌≡◌, refl, sym, ap, ◌∙◌}
 use Prim.Native.Nat.{ℕ, ◌+◌, ◌≤◌}
-use mathlib.Core.Bool.{true, false, ◌&&◌}
+use mathlib.Core.Bool.{true, false, ◌&&◌, and-false}
 use mathlib.Core.List.{List, [], ◌∷◌}
 use native.Mathlib.Omega.{arith}
 use lib.Dec.{eqb}
@@ -25,7 +25,6 @@ use Rattle.history.specs.Calls.{Call, set_up, event, host, clear_selftest, resta
 use Rattle.history.specs.Exchanges.{SecondCommand, Confirms, Stage, asked, pledged, confirmed, Exchange, between, second, status, first}
 use Rattle.history.specs.Demands.{InTimeIsHeard, InTimeIsHeardAfterAnyPast}
 use Rattle.history.specs.Calls.{after_past}
-use Rattle.history.proofs.Tests.{and_false}
 use Rattle.history.proofs.Steps.{stepped, not_earlier}
 use Rattle.history.proofs.Times.{event_time, time_grows, spaced_most}
 use Rattle.history.proofs.Phases.{none_missing, not_due, over_at_lem}
@@ -163,7 +162,7 @@ moved_come c stage x last other = record {
 -- a command word to another address than ours and 31 is no own command
 another_foreign : (own : Own) (x : WordRecord) → eqb (address_of x.word) own.address ≡ false → is_broadcast x.word ≡ false → is_own own x ≡ false
 unfolding is_own
-another_foreign own x another one = rw (another, one, and_false (is_valid_record x && eqb x.sync command_sync))
+another_foreign own x another one = rw (another, one, and-false (is_valid_record x && eqb x.sync command_sync))
 
 module _ (begun : State) {m : Message} {s : State} (way : Way begun m s) {r : WordRecord} (some : 1 ≤ awaited_of r.word) where
   -- the second command word

@@ -1,7 +1,7 @@
 -- No message waits longer than it may for its first data word, and the host is told so. Assumes nothing.
 use mathlib.Core.Path.{◌≡◌, refl, sym, ap, ◌∙◌}
 use Prim.Native.Nat.{ℕ, ◌+◌, ◌-◌, ◌^◌, ◌≤◌, ◌<◌}
-use mathlib.Core.Bool.{true, false, or-true}
+use mathlib.Core.Bool.{true, false, or-true, and-false}
 use mathlib.Core.List.{List}
 use mathlib.Core.Logic.{dite}
 use native.Mathlib.Nat.{lt_of_not-le}
@@ -28,7 +28,7 @@ use Rattle.history.specs.Calls.{Call, event, step, run}
 use Rattle.history.specs.States.{marks_fault}
 use Rattle.history.specs.Exchanges.{Waits, NotPast, moment_while}
 use Rattle.history.specs.Demands.{NeverWaitsLonger, WaitIsTold, WaitExactly}
-use Rattle.history.proofs.Tests.{true≢, false≢, cond_cases, and_false}
+use Rattle.history.proofs.Tests.{true≢, false≢, cond_cases}
 use Rattle.history.proofs.Steps.{accepted_table, shown, record_on_clock}
 use Rattle.history.proofs.Phases.{none_missing, over_at, over_at_lem}
 use Rattle.history.proofs.Ways.{still_answer}
@@ -91,7 +91,7 @@ awaits_receives word = cond_cases (λ (n : ℕ). 1 ≤ n → is_transmit word �
 
 receives_plain : (own : Own) (word : ℕ) → is_transmit word ≡ false → is_exempt own word ≡ false
 unfolding is_exempt
-receives_plain own word receives = rw (receives, and_false)
+receives_plain own word receives = rw (receives, and-false)
 
 module _ (r : WordRecord) (m : Message) (tracks : Tracks r m) (under : is_under_way m.phase ≡ true) (none : m.got ≡ 0) (some : 1 ≤ awaited_of r.word) where
   missing : is_whole m ≡ false

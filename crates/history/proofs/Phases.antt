@@ -1,7 +1,7 @@
 -- Which messages are under way, and when the time of one is over, by its phase. Assumes nothing.
 use mathlib.Core.Path.{◌≡◌, refl, ap}
 use Prim.Native.Nat.{ℕ, ◌+◌, ◌≤◌}
-use mathlib.Core.Bool.{Bool, true, false, ◌||◌}
+use mathlib.Core.Bool.{Bool, true, false, ◌||◌, and-false, or-false}
 use native.Mathlib.Omega.{arith}
 use lib.Dec.{ltb, leb}
 use borrow.Author.Tests.{leb-false, ltb-true, lt-ltb, lt-leb}
@@ -11,7 +11,7 @@ use Rattle.terminal.specs.declared.states.Phase.{Phase}
 use Rattle.terminal.specs.declared.states.Phase.TheVariants.{Idle, First, Pledged, Confirmed, Data}
 use Rattle.terminal.specs.declared.states.Message.{Message}
 use Rattle.history.specs.States.{is_opening}
-use Rattle.history.proofs.Tests.{and_left, and_right, and_false, or_cases}
+use Rattle.history.proofs.Tests.{and_left, and_right, or_cases}
 
 -- one that counts data words
 pub counting_under_way : (p : Phase) → is_counting p ≡ true → is_under_way p ≡ true
@@ -45,7 +45,7 @@ awaits_missing m awaits =
 -- nor is one without a data word whose command awaits some
 pub none_missing : (m : Message) (word : ℕ) → m.command.0 ≡ word → 1 ≤ awaited_of word → m.got ≡ 0 → is_whole m ≡ false
 unfolding is_whole
-none_missing m word asked some none = rw (asked, none, lt-leb (awaited_of word) 0 (omega (arith, some))) (and_false (is_counting m.phase))
+none_missing m word asked some none = rw (asked, none, lt-leb (awaited_of word) 0 (omega (arith, some))) (and-false (is_counting m.phase))
 
 -- one that is due
 pub due_under_way : (m : Message) (t : ℕ) → is_due m t ≡ true → is_under_way m.phase ≡ true
@@ -74,10 +74,6 @@ over_at First m t = ltb (m.last.0 + spacing_most) t
 over_at (Pledged address) m t = ltb (m.start.0 + first_word_distance) t
 over_at Confirmed m t = ltb (m.last.0 + spacing_most) t || ltb (m.start.0 + first_word_distance) t
 over_at Data m t = ltb (m.last.0 + spacing_most) t
-
-or_off : (b : Bool) → (b || false) ≡ b
-or_off true = refl
-or_off false = refl
 
 module _ (m : Message) (missing : is_whole m ≡ false) where
   pub not_due : (t : ℕ) → is_due m t ≡ false
@@ -109,7 +105,7 @@ module _ (m : Message) (missing : is_whole m ≡ false) where
 
   pub over_at_lem : (p : Phase) (t : ℕ) → m.phase ≡ p → is_over m t ≡ over_at p m t
   over_at_lem Idle t is = rw (uncounted t (ap is_counting is), direct t (ap is_between is)) refl
-  over_at_lem First t is = rw (late_at t (ap is_counting is), direct t (ap is_between is)) (or_off (ltb (m.last.0 + spacing_most) t))
+  over_at_lem First t is = rw (late_at t (ap is_counting is), direct t (ap is_between is)) (or-false (ltb (m.last.0 + spacing_most) t))
   over_at_lem (Pledged address) t is = rw (uncounted t (ap is_counting is), overdue_at t (ap is_between is)) refl
   over_at_lem Confirmed t is = rw (late_at t (ap is_counting is), overdue_at t (ap is_between is)) refl
-  over_at_lem Data t is = rw (late_at t (ap is_counting is), direct t (ap is_between is)) (or_off (ltb (m.last.0 + spacing_most) t))
+  over_at_lem Data t is = rw (late_at t (ap is_counting is), direct t (ap is_between is)) (or-false (ltb (m.last.0 + spacing_most) t))

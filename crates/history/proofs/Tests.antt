@@ -1,6 +1,7 @@
 -- What a test that passed, or failed, says. Assumes nothing.
 use mathlib.Core.Path.{◌≡◌, refl, sym, ap}
 use mathlib.Core.Bool.{Bool, true, false, cond, ◌&&◌, ◌||◌, true≢false}
+use Rattle.std.proofs.lemmas.Bool.{and_parts, or_parts}
 use Rattle.std.specs.Prelude.{Option, Some, None, is_some}
 
 -- a test does not go both ways
@@ -31,20 +32,13 @@ cond_same true x = refl
 cond_same false x = refl
 
 pub and_left : (a b : Bool) → (a && b) ≡ true → a ≡ true
-and_left true b h = refl
-and_left false b h = h
+and_left a b h = (and_parts a b h).0
 
 pub and_right : (a b : Bool) → (a && b) ≡ true → b ≡ true
-and_right true b h = h
-and_right false b h = true≢ (sym h)
-
-pub and_false : (a : Bool) → (a && false) ≡ false
-and_false true = refl
-and_false false = refl
+and_right a b h = (and_parts a b h).1
 
 pub or_false : {P : Type 0} (a b : Bool) → (a || b) ≡ false → (a ≡ false → b ≡ false → P) → P
-or_false true b h p = true≢ h
-or_false false b h p = p refl h
+or_false a b h p = p (or_parts a b h).0 (or_parts a b h).1
 
 pub or_cases : {P : Type 0} (a b : Bool) → (a || b) ≡ true → (a ≡ true → P) → (b ≡ true → P) → P
 or_cases true b h p q = p refl

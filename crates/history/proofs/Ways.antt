@@ -1,7 +1,7 @@
 -- A message on its way to its answer: what calls that may come leave as it is, and how a data word moves it on. Assumes nothing.
 use mathlib.Core.Path.{◌≡◌, refl, sym, ap, ◌∙◌}
 use Prim.Native.Nat.{ℕ, suc, ◌+◌, ◌≤◌, ◌<◌}
-use mathlib.Core.Bool.{Bool, true, false, not, ◌&&◌}
+use mathlib.Core.Bool.{Bool, true, false, not, ◌&&◌, and-false}
 use mathlib.Core.List.{List, [], ◌∷◌, ◌++◌}
 use native.Mathlib.Omega.{arith}
 use lib.Dec.{eqb, ltb, leb}
@@ -28,7 +28,7 @@ use Rattle.terminal.specs.declared.events.Event.TheVariants.{Mark, Word}
 use Rattle.terminal.specs.declared.events.Happened.{Happened}
 use Rattle.history.specs.Calls.{Call, set_up, event, host, clear_selftest, restart, is_accepted, is_set_up, step, answer_in}
 use Rattle.history.specs.Courses.{NextWord, is_harmless, may_come}
-use Rattle.history.proofs.Tests.{false≢, and_false, or_cases}
+use Rattle.history.proofs.Tests.{false≢, or_cases}
 use Rattle.history.proofs.Steps.{accepted, stepped, refused, refused_stays, refusal_keeps}
 use Rattle.history.proofs.Passing.{still}
 use Rattle.history.proofs.Marks.{passed_over}
@@ -62,13 +62,13 @@ Calm (x ∷ rest) last t = t ≤ last + spacing_most
 module _ {bus command latest : ℕ} {words : List ℕ} {m : Message} (g : Gathered bus command latest words m) where
   pub not_due : (rest : List ℕ) (t : ℕ) → length words + length rest ≡ awaited_of command → Calm rest latest t → is_due m t ≡ false
   unfolding is_due is_whole
-  not_due [] t all calm = rw (g.last, lt-leb (latest + due_distance) t calm) (and_false (is_counting m.phase && leb (awaited_of m.command.0) m.got))
+  not_due [] t all calm = rw (g.last, lt-leb (latest + due_distance) t calm) (and-false (is_counting m.phase && leb (awaited_of m.command.0) m.got))
   not_due (x ∷ rest) t all calm = rw (g.counts, g.asked, g.got, lt-leb (awaited_of command) (length words) (omega arith))
 
   not_late : (rest : List ℕ) (t : ℕ) → length words + length rest ≡ awaited_of command → Calm rest latest t → is_late m t ≡ false
   unfolding is_late awaits_data
   not_late [] t all calm = rw (g.counts, g.asked, g.got, le-ltb (length words) (awaited_of command) (omega arith))
-  not_late (x ∷ rest) t all calm = rw (g.last, le-ltb (latest + spacing_most) t calm) (and_false (is_counting m.phase && ltb m.got (awaited_of m.command.0)))
+  not_late (x ∷ rest) t all calm = rw (g.last, le-ltb (latest + spacing_most) t calm) (and-false (is_counting m.phase && ltb m.got (awaited_of m.command.0)))
 
   -- nor is one overdue that awaits no first word of another terminal
   pub not_over : is_between m.phase ≡ false → (rest : List ℕ) (t : ℕ) → length words + length rest ≡ awaited_of command → Calm rest latest t
@@ -90,7 +90,7 @@ module _ (begun : State) (m : Message) (s : State) (way : Way begun m s) (bus : 
   unfolding is_on
   off r h =
       let apart : eqb bus r.bus ≡ false = ne_eqb bus r.bus (λ e. eqb-false r.bus bus (not-true (eqb r.bus bus) h) (sym e)) in
-      rw (way.message, on, apart) (and_false (is_under_way m.phase))
+      rw (way.message, on, apart) (and-false (is_under_way m.phase))
 
   -- nothing is due and no time over
   abbrev pub Rests : ℕ → Type 0
@@ -153,13 +153,13 @@ data_foreign : (own : Own) (r : WordRecord) → r.sync ≡ data_sync → is_own 
 unfolding is_own
 data_foreign own r sync =
     let no_command : eqb r.sync command_sync ≡ false = rw sync in
-    rw (no_command, and_false (is_valid_record r))
+    rw (no_command, and-false (is_valid_record r))
 
 data_not_second : (own : Own) (m : Message) (r : WordRecord) → r.sync ≡ data_sync → is_second own m r ≡ false
 unfolding is_second
 data_not_second own m r sync =
     let no_command : eqb r.sync command_sync ≡ false = rw sync in
-    rw (no_command, and_false (is_valid_record r))
+    rw (no_command, and-false (is_valid_record r))
 
 -- rule 5 takes the next data word of a message that counts its words
 rule5_data : (p : Phase) (s : State) (r : WordRecord) → is_counting p ≡ true → r.sync ≡ data_sync → awaits_data s.message ≡ true

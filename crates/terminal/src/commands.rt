@@ -7,7 +7,7 @@ use crate::states::{Own, Setup};
 use records::WordRecord;
 use words::{COMMAND_SYNC, CommandWord};
 
-// The mode codes by their names in 01's table.
+// The mode codes by their names in 01's table. Numbers and no enum: any of 32 comes, reserved ones too, and is answered.
 pub(crate) const SYNCHRONIZE: u16 = 1;
 
 pub(crate) const TRANSMIT_STATUS_WORD: u16 = 2;

@@ -14,7 +14,7 @@ use crate::states::{Held, Message, Own, Terminal};
 use crate::tables::STAGED_WORDS;
 use words::StatusWord;
 
-// "0 is A, 1 is B"
+// "0 is A, 1 is B". Numbers and no enum: the host may ask of any, and a record may have any until it is refused.
 const BUS_A: u8 = 0;
 
 const BUS_B: u8 = 1;

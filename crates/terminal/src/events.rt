@@ -19,7 +19,8 @@ pub enum Event {
     Word(WordRecord),
 }
 
-// An event in numbers, so that it is matched on once: a time mark is told as a record of zeros at its time, and that it is a mark.
+// An event in numbers, so that it is matched on once: a time mark is told as a record of zeros at its time, and that it is a mark. A flag and no Option:
+// what refuses an event and what asks its time read a record of either kind.
 #[derive(Clone, Copy)]
 pub struct Told {
     pub heard: WordRecord,

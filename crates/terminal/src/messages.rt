@@ -14,26 +14,14 @@ impl Phase {
     fn is_under_way(self) -> bool
         ensures answer { result ≡ is_under_way self }
     {
-        match self {
-            Phase::Idle => false,
-            Phase::First => true,
-            Phase::Pledged(_) => true,
-            Phase::Confirmed => true,
-            Phase::Data => true,
-        }
+        !matches!(self, Phase::Idle)
     }
 
     // Says whether data words are counted: not while a status between terminals is awaited.
     fn is_counting(self) -> bool
         ensures answer { result ≡ is_counting self }
     {
-        match self {
-            Phase::Idle => false,
-            Phase::First => true,
-            Phase::Pledged(_) => false,
-            Phase::Confirmed => true,
-            Phase::Data => true,
-        }
+        matches!(self, Phase::First | Phase::Confirmed | Phase::Data)
     }
 }
 
@@ -69,7 +57,7 @@ impl Message {
         ensures answer { result ≡ is_due self time.0 }
     {
         let past = time.since(self.last);
-        self.is_whole() & (Terminal::DUE_DISTANCE.0 <= past.0)
+        self.is_whole() & (Terminal::DUE_DISTANCE <= past)
     }
 
     // Says whether a data word is awaited for too long.
@@ -77,7 +65,7 @@ impl Message {
         ensures answer { result ≡ is_late self time.0 }
     {
         let past = time.since(self.last);
-        self.awaits_data() & (Terminal::SPACING_MOST.0 < past.0)
+        self.awaits_data() & (Terminal::SPACING_MOST < past)
     }
 
     // Says whether the first data word of another terminal is awaited.
@@ -99,7 +87,7 @@ impl Message {
         ensures answer { result ≡ is_overdue self time.0 }
     {
         let past = time.since(self.start);
-        self.awaits_first() & (Terminal::FIRST_WORD_DISTANCE.0 < past.0)
+        self.awaits_first() & (Terminal::FIRST_WORD_DISTANCE < past)
     }
 
     // Says whether the time of the message is over, by either limit.
@@ -114,7 +102,7 @@ impl Message {
         ensures answer { result ≡ is_spaced self.last.0 time.0 }
     {
         let past = time.since(self.last);
-        (Terminal::SPACING_LEAST.0 <= past.0) & (past.0 <= Terminal::SPACING_MOST.0)
+        (Terminal::SPACING_LEAST <= past) & (past <= Terminal::SPACING_MOST)
     }
 
     // Says whether the record is the next data word: valid, data sync, spaced.
@@ -153,7 +141,7 @@ impl Sending {
         ensures answer { result ≡ is_sent self bus time.0 }
     {
         let past = time.since(self.from);
-        (self.bus == bus) & (self.from.0 <= time.0) & (past.0 < Ticks::WORD.0 * (self.words as u64))
+        (self.bus == bus) & (self.from <= time) & (past.0 < Ticks::WORD.0 * (self.words as u64))
     }
 }
 
@@ -178,10 +166,7 @@ const OVERDUE_DISTANCE: Ticks = Ticks(751);
 fn earlier(one: Moment, other: Moment) -> Moment
     ensures moment { result.0 ≡ earlier_of one.0 other.0 }
 {
-    if one.0 <= other.0 {
-        return one;
-    }
-    other
+    one.min(other)
 }
 
 impl Message {

@@ -193,15 +193,7 @@ impl Meaning {
     fn is_beginning(self) -> bool
         ensures answer { result ≡ is_beginning self }
     {
-        match self {
-            Meaning::Ignored => false,
-            Meaning::Begins => true,
-            Meaning::SecondCommand => false,
-            Meaning::Status => false,
-            Meaning::DataWord => false,
-            Meaning::Faulty => false,
-            Meaning::Nothing => false,
-        }
+        matches!(self, Meaning::Begins)
     }
 }
 
@@ -227,7 +219,7 @@ impl Work {
 // ---- "5. Any other record on the bus of a message under way must be its next word .. Otherwise the message is faulty, also when all its words had
 // come."
 impl SpacingFault {
-    // Gives the fault that a spacing is, if any.
+    // Gives the fault that a spacing is, if any; no `From`, since an Option is not this crate's.
     fn of_spacing(spacing: Spacing) -> Option<SpacingFault>
         ensures fault { result ≡ fault_by spacing }
     {
