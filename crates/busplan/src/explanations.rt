@@ -24,7 +24,7 @@ fn total_load(schedule: Schedule) -> u64 {
     total(&loads)
 }
 
-// Gives the line of a message, also of the 65th.
+// Gives the line of a message, also of the 65th. There is no other to ask for, so that none needs no Option.
 fn line_of(draft: Draft, number: u64) -> u64 {
     if number <= MESSAGES_MOST {
         return draft.lines[number as usize];

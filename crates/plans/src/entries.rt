@@ -82,7 +82,8 @@ fn placed(message: Message, frame: &[u8]) -> Result<Entry, Fault>
     Ok(Entry::Placed(message, place))
 }
 
-// Gives a message with its period, and with its first frame where the line has one.
+// Gives a message with its period, and with its first frame where the line has one. How many commands it has is a number, as in a message, which takes any; period and
+// frame are two parts of the line, as in the definitions.
 #[tactic(auto, unfolding(crate::specs::Entries::message_with))]
 fn message_with(
     commands: u8,
@@ -154,7 +155,8 @@ fn read_capacity(line: &[u8]) -> Result<Entry, Fault>
     }
 }
 
-// Gives what a line says whose parts stand apart by one space each, or None where it says nothing.
+// Gives what a line says whose parts stand apart by one space each, or None where it says nothing. Its name is compared by `is_same`, which promises the test of the
+// definition.
 pub(crate) fn read_entry(line: &[u8]) -> Result<Option<Entry>, Fault>
     ensures entry { result ≡ parts_entry (parts_of line.now) }
 {

@@ -35,6 +35,9 @@ pub(crate) fn keep_stretch(last: Option<Moment>, bytes: &[u8]) -> Stretch
     }
 }
 
+// Both stretches have a function: one goes on by a record and remembers its time, the other by a byte and counts strays, so that one for both would ask which it is at
+// each step.
+
 // How many bytes are skipped, and at how many of their places a record stands that is refused for its time alone.
 #[derive(Clone, Copy)]
 pub(crate) struct Skipped {
