@@ -1,12 +1,14 @@
 // The bench: the terminal under the stream's calls, and the checksum over what they give.
-ghost use Rattle.std.specs.Prelude.{◌≤◌};
-
 use crate::calls::{Call, Lending, SettingUp};
 use crate::draws::mixed_mask;
-use crate::sums::{START, add_answer, add_byte, add_received, add_state};
-use std::num::wrapping_add_u64;
-use terminal::{Happened, RefusedSetUp, Setup, Terminal};
+use crate::sums::{START, add_answer, add_byte, add_state};
+use crate::tables::Tables;
+use std::array;
+use terminal::{RefusedSetUp, Setup, Terminal};
 use words::Refusal;
+
+// how many masks of a table a set-up can be lent
+const MASKS: usize = 64;
 
 #[derive(Clone, Copy)]
 pub(crate) struct Bench {
@@ -14,134 +16,84 @@ pub(crate) struct Bench {
     pub(crate) sum: u64,
 }
 
-// Gives the lesser of two sizes. No call lends more than there is; this has that fact at hand.
-fn least(size: usize, most: usize) -> usize
-    ensures { result ≤ most }
-{
-    size.min(most)
-}
-
 // Gives 64 masks: "With m = 0 every mask is FFFFFFFFh; else receive mask i is the low 32 bits of mix(m + i) OR its high 32 bits".
-fn make_masks(m: u64, from: u64) -> [u32; 64] {
-    let mut masks = [0xFFFF_FFFFu32; 64];
+fn make_masks(m: u64, from: u64) -> [u32; MASKS] {
     if m == 0 {
-        return masks;
+        return [u32::MAX; MASKS];
     }
-    let start = wrapping_add_u64(m, from);
-    for (i, mask) in masks.iter_mut().enumerate() {
-        *mask = mixed_mask(wrapping_add_u64(start, i as u64));
-    }
-    masks
+    let start = m.wrapping_add(from);
+    array::from_fn(|i| mixed_mask(start.wrapping_add(i as u64)))
 }
 
 // Sets up with as many masks of the tables as the call says.
-fn lend_masks(
-    call: SettingUp,
-    receive: &[u32],
-    transmit: &[u32],
-) -> Result<Terminal, RefusedSetUp> {
-    let received = least(call.receive, receive.len());
-    let transmitted = least(call.transmit, transmit.len());
-    terminal::set_up(
-        call.address,
-        &receive[0..received],
-        &transmit[0..transmitted],
-    )
-}
-
-// Hands the event over with as many words of the tables as it says.
-fn lend(terminal: Terminal, call: Lending, receive: &mut [u16], transmit: &[u16]) -> Happened {
-    let event = call.event;
-    let received = least(call.receive, receive.len());
-    let transmitted = least(call.transmit, transmit.len());
-    terminal.event(event, &mut receive[0..received], &transmit[0..transmitted])
+fn set_up(call: SettingUp) -> Result<Terminal, RefusedSetUp> {
+    let receive = make_masks(call.masks, 0);
+    let transmit = make_masks(call.masks, 64);
+    let received = call.receive.min(MASKS);
+    let transmitted = call.transmit.min(MASKS);
+    terminal::set_up(call.address, &receive[..received], &transmit[..transmitted])
 }
 
 impl Bench {
     // "The first call is a set-up that is accepted, so the terminal before it does not matter."
     pub(crate) fn start() -> Bench {
         let setup = Setup::build(0, [0; 32], [0; 32]);
-        let terminal = Terminal::fresh(setup);
         Bench {
-            terminal,
+            terminal: Terminal::fresh(setup),
             sum: START,
         }
     }
 
-    // 1 and 3: the refusal's number, 0 where there is none, and what the terminal says of itself.
+    // 1 and 3: the refusal, "0 for none and for every host call", and what the terminal says of itself.
     fn outcome(self, refusal: Option<Refusal>) -> Bench {
-        let terminal = self.terminal;
-        let number = match refusal {
-            Some(refusal) => refusal.number(),
-            None => 0,
-        };
-        let sum = add_state(add_byte(self.sum, number), terminal);
-        Bench { terminal, sum }
+        let refused = add_byte(self.sum, refusal.map_or(0, Refusal::number));
+        Bench {
+            sum: add_state(refused, self.terminal),
+            ..self
+        }
     }
 
     // After a host call: no refusal.
     fn hosted(self, terminal: Terminal) -> Bench {
-        let bench = Bench {
-            terminal,
-            sum: self.sum,
-        };
-        bench.outcome(None)
+        Bench { terminal, ..self }.outcome(None)
     }
 
     fn set_up(self, call: SettingUp) -> Bench {
-        let received = make_masks(call.masks, 0);
-        let transmitted = make_masks(call.masks, 64);
-        match lend_masks(call, &received, &transmitted) {
+        match set_up(call) {
             Ok(terminal) => self.hosted(terminal),
             Err(refused) => self.outcome(Some(refused.refusal)),
         }
     }
 
-    fn happen(
-        self,
-        call: Lending,
-        receive: &mut [u16; 2048],
-        transmit: &[u16; 2048],
-        copy: &mut [u16; 1024],
-    ) -> Bench {
-        let happened = lend(self.terminal, call, receive, transmit);
+    fn happen(self, call: Lending, tables: &mut Tables) -> Bench {
+        let happened = tables.lend(self.terminal, call);
         if happened.refusal.is_some() {
             return self.outcome(happened.refusal);
         }
-        let answer = happened.answer;
-        let terminal = happened.terminal;
-        let answered = add_answer(add_byte(self.sum, 0), answer, happened.cut);
-        let sum = add_state(answered, terminal);
-        if answer.is_some() {
-            let whole = add_received(sum, receive, copy);
-            return Bench {
-                terminal,
-                sum: whole,
-            };
+        let answered = add_answer(add_byte(self.sum, 0), happened.answer, happened.cut);
+        let told = add_state(answered, happened.terminal);
+        let sum = if happened.answer.is_some() {
+            tables.add_received(told)
+        } else {
+            told
+        };
+        Bench {
+            terminal: happened.terminal,
+            sum,
         }
-        Bench { terminal, sum }
     }
 
-    // The host writes the transmit table.
-    fn send(self, place: usize, word: u16, transmit: &mut [u16; 2048]) -> Bench {
-        if let Some(at) = transmit.get_mut(place) {
-            *at = word;
-        }
+    fn send(self, place: usize, word: u16, tables: &mut Tables) -> Bench {
+        tables.send(place, word);
         self.outcome(None)
     }
 
-    // Makes the call, and adds its outcome to the sum.
-    pub(crate) fn play(
-        self,
-        call: Call,
-        receive: &mut [u16; 2048],
-        transmit: &mut [u16; 2048],
-        copy: &mut [u16; 1024],
-    ) -> Bench {
+    // Makes the call, and adds its outcome to the sum. A match on the calls: what each takes is in the call, and the stream knows no other kinds.
+    pub(crate) fn play(self, call: Call, tables: &mut Tables) -> Bench {
         let terminal = self.terminal;
         match call {
             Call::SetUp(made) => self.set_up(made),
-            Call::Happen(lending) => self.happen(lending, receive, transmit, copy),
+            Call::Happen(lending) => self.happen(lending, tables),
             Call::Service(on) => self.hosted(terminal.set_service(on)),
             Call::Busy(on) => self.hosted(terminal.set_busy(on)),
             Call::Subsystem(on) => self.hosted(terminal.set_subsystem(on)),
@@ -149,18 +101,19 @@ impl Bench {
             Call::Vector(word) => self.hosted(terminal.set_vector_word(word)),
             Call::Bit(word) => self.hosted(terminal.set_bit_word(word)),
             Call::ClearSelftest => self.hosted(terminal.clear_selftest()),
-            Call::Send { place, word } => self.send(place, word, transmit),
+            Call::Send { place, word } => self.send(place, word, tables),
             Call::Restart => self.hosted(terminal.restart()),
         }
     }
 
     // Adds what changed in the receive table, after the call of that number where it is a multiple of 1,024.
-    pub(crate) fn look(self, number: u64, receive: &[u16; 2048], copy: &mut [u16; 1024]) -> Bench {
-        if number % 1024 != 0 {
+    pub(crate) fn look(self, number: u64, tables: &mut Tables) -> Bench {
+        if !number.is_multiple_of(1024) {
             return self;
         }
-        let terminal = self.terminal;
-        let sum = add_received(self.sum, receive, copy);
-        Bench { terminal, sum }
+        Bench {
+            sum: tables.add_received(self.sum),
+            ..self
+        }
     }
 }

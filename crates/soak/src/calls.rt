@@ -38,33 +38,40 @@ pub(crate) enum Call {
     Restart,
 }
 
+impl Lending {
+    // Gives the event with both tables whole.
+    pub(crate) fn whole(event: Event) -> Lending {
+        Lending {
+            event,
+            receive: TABLE,
+            transmit: TABLE,
+        }
+    }
+}
+
 // Gives an event that lends both tables whole.
 pub(crate) fn lend_whole(event: Event) -> Call {
-    Call::Happen(Lending {
-        event,
-        receive: TABLE,
-        transmit: TABLE,
-    })
+    Call::Happen(Lending::whole(event))
 }
 
 // "A record has the right parity bit for its word, and faults 0, where nothing else is said."
 pub(crate) fn right_record(time: u64, bus: u8, sync: u8, word: u16) -> WordRecord {
-    let parity = parity_bit(word);
     WordRecord {
         time: Moment(time),
         bus,
         sync,
         faults: 0,
         word,
-        parity,
+        parity: parity_bit(word),
     }
 }
 
 // Gives the record with the wrong parity, or again the right one.
 pub(crate) fn turn_parity(heard: WordRecord) -> WordRecord {
-    let mut next = heard;
-    next.parity = heard.parity ^ 1;
-    next
+    WordRecord {
+        parity: heard.parity ^ 1,
+        ..heard
+    }
 }
 
 // Gives address * 2048 + low mod 2048.

@@ -1,8 +1,7 @@
-// C, the new commands of the mixed part (bench/soak.h).
+// C, the new commands of the mixed part (bench/soak.h). What is drawn and in which order is fixed there.
 use crate::counts::{awaited, sent};
-use crate::draws::{draw, draw_short, draw_step, one_in};
+use crate::draws::{draw, draw_from, draw_step, one_in};
 use crate::streams::{Made, Stage, Stream, other_bus};
-use std::num::wrapping_add_u64;
 use words::CommandWord;
 
 // "CODE[16]"
@@ -11,21 +10,21 @@ const CODES: [u16; 16] = [0, 1, 2, 3, 4, 5, 6, 7, 8, 16, 17, 18, 19, 20, 21, 2];
 // "count = draw(32) if one in 4, else CODE[draw(16)]"
 fn choose_code(seed: &mut u64) -> u16 {
     if one_in(seed, 4) {
-        return draw_short(seed, 32);
+        return draw(seed, 32) as u16;
     }
-    CODES[draw(seed, 16) as usize]
+    draw_from(seed, &CODES)
 }
 
 // "T/R = 0 for count 17, 20 or 21, else 1; if one in 8, T/R turns"
 fn choose_transmit(seed: &mut u64, code: u16) -> u16 {
-    let receives = (code == 17) | (code == 20) | (code == 21);
+    let receives = matches!(code, 17 | 20 | 21);
     let turns = one_in(seed, 8);
-    if receives == turns { 1 } else { 0 }
+    u16::from(receives == turns)
 }
 
 // Gives a mode command of that address.
 fn mode_word(seed: &mut u64, address: u16) -> CommandWord {
-    let subaddress = 31 * draw_short(seed, 2);
+    let subaddress = 31 * draw(seed, 2) as u16;
     let code = choose_code(seed);
     let transmit = choose_transmit(seed, code);
     CommandWord::build(address, transmit, subaddress, code)
@@ -34,15 +33,15 @@ fn mode_word(seed: &mut u64, address: u16) -> CommandWord {
 // "count = draw(32) if one in 4, else 1 + draw(4)"
 fn choose_count(seed: &mut u64) -> u16 {
     if one_in(seed, 4) {
-        return draw_short(seed, 32);
+        return draw(seed, 32) as u16;
     }
-    1 + draw_short(seed, 4)
+    1 + draw(seed, 4) as u16
 }
 
 // Gives a command of that address which is, but for a drawn subaddress 0 or 31, no mode command.
 fn data_word(seed: &mut u64, address: u16) -> CommandWord {
-    let subaddress = draw_short(seed, 32);
-    let transmit = draw_short(seed, 2);
+    let subaddress = draw(seed, 32) as u16;
+    let transmit = draw(seed, 2) as u16;
     let count = choose_count(seed);
     CommandWord::build(address, transmit, subaddress, count)
 }
@@ -53,7 +52,7 @@ impl Stream {
         match draw(seed, 16) {
             0..=9 => self.address,
             10..=12 => CommandWord::BROADCAST,
-            _ => draw_short(seed, 32),
+            _ => draw(seed, 32) as u16,
         }
     }
 
@@ -76,24 +75,25 @@ impl Stream {
     // "If one in 4, time = later(from + 259 + 200 * (1 + sent(command)) + draw(3)), else time = now + STEP[draw(16)]."
     fn command_time(self, seed: &mut u64) -> u64 {
         if one_in(seed, 4) {
-            let lasts = 200 * (1 + sent(self.command) as u64);
-            let past = 259 + lasts + draw(seed, 3);
-            return self.later(wrapping_add_u64(self.from, past));
+            let lasts = 200 * (1 + u64::from(sent(self.command)));
+            return self.after(259 + lasts + draw(seed, 3));
         }
-        wrapping_add_u64(self.now, draw_step(seed))
+        self.now.wrapping_add(draw_step(seed))
     }
 
     // Gives the stream at the first word of a message.
-    fn begun(self, word: CommandWord, bus: u8, time: u64) -> Stream {
-        let left = awaited(word);
-        let mut stream = self;
-        stream.command = word;
-        stream.bus = bus;
-        stream.from = time;
-        stream.left = left;
-        stream.first = true;
-        stream.stage = if left == 0 { Stage::Full } else { Stage::Data };
-        stream
+    fn begun(self, command: CommandWord, bus: u8, from: u64) -> Stream {
+        let left = awaited(command);
+        let stage = if left == 0 { Stage::Full } else { Stage::Data };
+        Stream {
+            command,
+            bus,
+            from,
+            left,
+            first: true,
+            stage,
+            ..self
+        }
     }
 
     // "C, new command."
@@ -103,13 +103,8 @@ impl Stream {
         let time = self.command_time(seed);
         let made = self.plan(seed, time, bus, 0, word.0);
         if (word.address() == self.address) | word.is_broadcast() {
-            let call = made.call;
-            let stream = made.stream;
-            let begun = stream.begun(word, bus, time);
-            return Made {
-                call,
-                stream: begun,
-            };
+            let stream = made.stream.begun(word, bus, time);
+            return Made { stream, ..made };
         }
         made
     }

@@ -1,4 +1,5 @@
-// How many data words a command awaits or has sent (bench/soak.h: awaited, sent). Written anew from there: the terminal's own are not asked.
+// How many data words a command awaits or has sent (bench/soak.h: awaited, sent). Written anew from there: `words` and the terminal, which are
+// tried here, are not asked for theirs.
 use words::CommandWord;
 
 // "awaited(c)": 0 to 32.
@@ -7,7 +8,7 @@ pub(crate) fn awaited(command: CommandWord) -> u16 {
         return 0;
     }
     if command.is_mode() {
-        return if command.count() < 16 { 0 } else { 1 };
+        return u16::from(command.count() >= 16);
     }
     command.words()
 }
@@ -18,9 +19,7 @@ pub(crate) fn sent(command: CommandWord) -> u16 {
         return 0;
     }
     if command.is_mode() {
-        let code = command.count();
-        let sends = (code == 16) | (code == 18) | (code == 19);
-        return if sends { 1 } else { 0 };
+        return u16::from(matches!(command.count(), 16 | 18 | 19));
     }
     command.words()
 }

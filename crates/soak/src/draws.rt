@@ -1,8 +1,6 @@
 // The numbers of the stream (bench/soak.h, NUMBERS): "All numbers are unsigned, 64 bits, and wrap." s is lent as `seed` to every draw, so
 // that draws stand in the code in the order in which they are made.
-ghost use Rattle.std.specs.Prelude.{◌≡◌, ◌*◌, ◌/◌, ◌%◌, ◌^◌, ◌<◌};
-
-use std::num::wrapping_add_u64;
+ghost use Rattle.std.specs.Prelude.{◌≡◌, ◌*◌, ◌%◌, ◌^◌, ◌<◌};
 
 // "next() adds 9E3779B97F4A7C15h to s"
 const STRIDE: u64 = 0x9E37_79B9_7F4A_7C15;
@@ -12,19 +10,7 @@ const STEPS: [u64; 16] = [
     0, 1, 20, 100, 194, 195, 200, 205, 206, 207, 259, 260, 261, 400, 460, 1000,
 ];
 
-fn low_half(n: u64) -> u32
-    ensures half { result ≡ n % 2 ^ 32 }
-{
-    (n % 0x1_0000_0000) as u32
-}
-
-fn high_half(n: u64) -> u32
-    ensures half { result ≡ n / 2 ^ 32 }
-{
-    (n >> 32) as u32
-}
-
-// Gives the low 64 bits of a product.
+// Gives the low 64 bits of a product. The name stays for its clause: of soak its product too is proved (DECISIONS 31).
 pub(crate) fn times(a: u64, b: u64) -> u64
     ensures wraps { result ≡ a * b % 2 ^ 64 }
 {
@@ -32,7 +18,7 @@ pub(crate) fn times(a: u64, b: u64) -> u64
 }
 
 // "mix(z)"
-pub(crate) fn mix(z: u64) -> u64 {
+fn mix(z: u64) -> u64 {
     let first = times(z ^ (z >> 30), 0xBF58_476D_1CE4_E5B9);
     let second = times(first ^ (first >> 27), 0x94D0_49BB_1331_11EB);
     second ^ (second >> 31)
@@ -41,14 +27,13 @@ pub(crate) fn mix(z: u64) -> u64 {
 // Gives the low half of a mixed number OR its high half: a mask with three bits of four set.
 pub(crate) fn mixed_mask(z: u64) -> u32 {
     let mixed = mix(z);
-    low_half(mixed) | high_half(mixed)
+    ((mixed | (mixed >> 32)) & 0xFFFF_FFFF) as u32
 }
 
 // "next()"
 pub(crate) fn next(seed: &mut u64) -> u64 {
-    let s = wrapping_add_u64(*seed, STRIDE);
-    *seed = s;
-    mix(s)
+    *seed = seed.wrapping_add(STRIDE);
+    mix(*seed)
 }
 
 // "draw(n) = next() mod n"
@@ -57,22 +42,6 @@ pub(crate) fn draw(seed: &mut u64, n: u64) -> u64
     ensures { result < n }
 {
     next(seed) % n
-}
-
-// draw(n) for what 16 bits hold.
-pub(crate) fn draw_short(seed: &mut u64, n: u16) -> u16
-    requires { 0 < n }
-    ensures { result < n }
-{
-    draw(seed, n as u64) as u16
-}
-
-// draw(n) for what a byte holds.
-pub(crate) fn draw_byte(seed: &mut u64, n: u8) -> u8
-    requires { 0 < n }
-    ensures { result < n }
-{
-    draw(seed, n as u64) as u8
 }
 
 // draw(65536)
@@ -87,7 +56,14 @@ pub(crate) fn one_in(seed: &mut u64, n: u64) -> bool
     draw(seed, n) == 0
 }
 
+// Gives one of a table's values, by a draw of its place.
+pub(crate) fn draw_from<T: Copy, const N: usize>(seed: &mut u64, table: &[T; N]) -> T
+    requires { 0 < N }
+{
+    table[draw(seed, N as u64) as usize]
+}
+
 // STEP[draw(16)]
 pub(crate) fn draw_step(seed: &mut u64) -> u64 {
-    STEPS[draw(seed, 16) as usize]
+    draw_from(seed, &STEPS)
 }

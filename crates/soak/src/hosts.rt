@@ -1,4 +1,4 @@
-// H, the host calls of the mixed part (bench/soak.h).
+// H, the host calls of the mixed part (bench/soak.h). What is drawn and in which order is fixed there.
 use crate::calls::Call;
 use crate::draws::{draw, draw_word, one_in};
 use crate::streams::Stream;
@@ -6,8 +6,7 @@ use crate::streams::Stream;
 impl Stream {
     // "the host writes the transmit table at place 32 * (subaddress of command) + draw(32), word draw(65536)"
     fn send(self, seed: &mut u64) -> Call {
-        let command = self.command;
-        let at = 32 * (command.subaddress() as usize);
+        let at = 32 * usize::from(self.command.subaddress());
         let place = at + draw(seed, 32) as usize;
         let word = draw_word(seed);
         Call::Send { place, word }

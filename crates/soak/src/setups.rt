@@ -1,16 +1,17 @@
-// S, the set-ups of the mixed part (bench/soak.h).
+// S, the set-ups of the mixed part (bench/soak.h). What is drawn and in which order is fixed there.
 use crate::calls::{Call, SettingUp};
-use crate::draws::{draw, draw_short, next};
+use crate::draws::{draw, next};
 use crate::streams::{Made, Stage, Stream};
 use words::{CommandWord, Moment};
 
 // the masks of a right set-up
 const MASKS: usize = 32;
 
-// Gives a, which was drawn low: "If e is 0 or 1, a = 31 + draw(300). .. If e is 12 or more, a = 5."
+// Gives a, which was drawn low: "If e is 0 or 1, a = 31 + draw(300). .. If e is 12 or more, a = 5." e stays the number that is drawn: what it asks
+// for overlaps, so that kinds with names would say these ranges once more.
 fn choose_address(seed: &mut u64, e: u64, low: u16) -> u16 {
     match e {
-        0..=1 => 31 + draw_short(seed, 300),
+        0..=1 => 31 + draw(seed, 300) as u16,
         2..=11 => low,
         _ => 5,
     }
@@ -25,9 +26,9 @@ fn choose_size(seed: &mut u64, is_drawn: bool) -> usize {
     }
 }
 
-// Gives the time: "END - 30000 for b = 0, 0 for b = 1, else draw(100000)".
-fn choose_start(seed: &mut u64, b: u64) -> u64 {
-    match b {
+// "b = draw(8); now = END - 30000 for b = 0, 0 for b = 1, else draw(100000)".
+fn choose_start(seed: &mut u64) -> u64 {
+    match draw(seed, 8) {
         0 => Moment::END.0 - 30000,
         1 => 0,
         _ => draw(seed, 100000),
@@ -42,27 +43,26 @@ impl Stream {
 
     // Gives the stream after a set-up that is accepted.
     fn set_anew(self, seed: &mut u64, address: u16) -> Stream {
-        let b = draw(seed, 8);
-        let now = choose_start(seed, b);
-        let command = CommandWord(0);
-        let mut stream = self;
-        stream.address = address;
-        stream.bus = 0;
-        stream.command = command;
-        stream.stage = Stage::Idle;
-        stream.now = now;
-        stream.from = now;
-        stream
+        let now = choose_start(seed);
+        Stream {
+            address,
+            bus: 0,
+            command: CommandWord(0),
+            stage: Stage::Idle,
+            now,
+            from: now,
+            ..self
+        }
     }
 
     // "S, set-up."
     pub(crate) fn set_up(self, seed: &mut u64) -> Made {
         let drawn = next(seed);
         let e = self.choose_kind(seed);
-        let low = draw_short(seed, 31);
+        let low = draw(seed, 31) as u16;
         let address = choose_address(seed, e, low);
-        let receive = choose_size(seed, (e == 1) | (e == 2));
-        let transmit = choose_size(seed, (e == 1) | (e == 3));
+        let receive = choose_size(seed, matches!(e, 1 | 2));
+        let transmit = choose_size(seed, matches!(e, 1 | 3));
         let masks = if e >= 8 { 0 } else { drawn };
         let call = Call::SetUp(SettingUp {
             address,
@@ -70,12 +70,16 @@ impl Stream {
             transmit,
             masks,
         });
-        let mut stream = self;
-        stream.started = true;
-        if (receive == MASKS) & (transmit == MASKS) & (address <= 30) {
-            let anew = stream.set_anew(seed, address);
-            return Made { call, stream: anew };
-        }
+        let started = Stream {
+            started: true,
+            ..self
+        };
+        let is_right = (receive == MASKS) & (transmit == MASKS) & (address <= 30);
+        let stream = if is_right {
+            started.set_anew(seed, address)
+        } else {
+            started
+        };
         Made { call, stream }
     }
 }

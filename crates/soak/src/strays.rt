@@ -1,9 +1,8 @@
-// W and M, the records and marks of the mixed part that no plan foresees (bench/soak.h).
+// W and M, the records and marks of the mixed part that no plan foresees (bench/soak.h). What is drawn and in which order is fixed there.
 use crate::calls::{addressed, right_record, turn_parity};
-use crate::draws::{draw_byte, draw_step, draw_word, one_in};
+use crate::draws::{draw, draw_step, draw_word, one_in};
 use crate::streams::{Made, Stream};
 use records::WordRecord;
-use std::num::wrapping_add_u64;
 
 // "if one in 4, the wrong parity; if one in 4, faults = draw(4)"
 fn may_harm(seed: &mut u64, heard: WordRecord) -> WordRecord {
@@ -12,7 +11,7 @@ fn may_harm(seed: &mut u64, heard: WordRecord) -> WordRecord {
         next = turn_parity(heard);
     }
     if one_in(seed, 4) {
-        next.faults = draw_byte(seed, 4);
+        next.faults = draw(seed, 4) as u8;
     }
     next
 }
@@ -29,9 +28,9 @@ impl Stream {
 
     // "W, stray record."
     pub(crate) fn stray_record(self, seed: &mut u64) -> Made {
-        let time = wrapping_add_u64(self.now, draw_step(seed));
-        let bus = draw_byte(seed, 2);
-        let sync = draw_byte(seed, 3);
+        let time = self.now.wrapping_add(draw_step(seed));
+        let bus = draw(seed, 2) as u8;
+        let sync = draw(seed, 3) as u8;
         let word = self.stray_word(seed);
         let heard = may_harm(seed, right_record(time, bus, sync, word));
         self.hear(heard)
@@ -40,10 +39,8 @@ impl Stream {
     // "M, stray mark."
     pub(crate) fn stray_mark(self, seed: &mut u64) -> Made {
         if one_in(seed, 2) {
-            let time = wrapping_add_u64(self.now, draw_step(seed));
-            return self.mark(time);
+            return self.mark(self.now.wrapping_add(draw_step(seed)));
         }
-        let time = self.later(wrapping_add_u64(self.from, draw_step(seed)));
-        self.mark(time)
+        self.mark(self.after(draw_step(seed)))
     }
 }

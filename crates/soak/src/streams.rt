@@ -1,12 +1,12 @@
-// The stream: its state, its choice of the next call, and what calls share (bench/soak.h, MIXED PART and P).
+// The stream: its state, its choice of the next call, and what calls share (bench/soak.h, MIXED PART and P). What is drawn and in which order is fixed there.
 use crate::calls::{Call, lend_whole, right_record, turn_parity};
-use crate::draws::{draw, draw_byte, draw_word};
+use crate::draws::{draw, draw_word};
 use crate::sweeps::Sweep;
 use records::WordRecord;
 use terminal::Event;
 use words::{CommandWord, Moment};
 
-// "idle, data, status or full"
+// "a stage (idle, data, status or full)"
 #[derive(Clone, Copy)]
 pub(crate) enum Stage {
     Idle,
@@ -15,8 +15,8 @@ pub(crate) enum Stage {
     Full,
 }
 
-// "Variables: address, now, from, bus, command, partner, left, first, and a stage"; before them the fixed part, and whether the mixed
-// part's first set-up has been made.
+// "Variables: address, now, from, bus, command, partner, left, first, and a stage"; before them the fixed part, None once it is over, and whether
+// the mixed part's first set-up has been made.
 #[derive(Clone, Copy)]
 pub(crate) struct Stream {
     pub(crate) sweep: Option<Sweep>,
@@ -39,33 +39,30 @@ pub(crate) struct Made {
     pub(crate) stream: Stream,
 }
 
-// Gives the other bus of the two.
+// Gives the other bus of the two. The terminal, which is tried here, is not asked for its own.
 pub(crate) fn other_bus(bus: u8) -> u8 {
     if bus == 0 { 1 } else { 0 }
 }
 
 // P's draw and what it does: "a record that may be spoilt, by draw(128)".
 fn may_spoil(seed: &mut u64, heard: WordRecord) -> WordRecord {
-    let mut next = heard;
     match draw(seed, 128) {
-        0 => {
-            return turn_parity(heard);
-        }
-        1 => {
-            next.faults = 1 + draw_byte(seed, 3);
-        }
-        2 => {
-            next.sync = draw_byte(seed, 3);
-        }
-        3 => {
-            next.bus = other_bus(heard.bus);
-        }
-        4 => {
-            return right_record(heard.time.0, heard.bus, heard.sync, draw_word(seed));
-        }
-        _ => {}
+        0 => turn_parity(heard),
+        1 => WordRecord {
+            faults: 1 + draw(seed, 3) as u8,
+            ..heard
+        },
+        2 => WordRecord {
+            sync: draw(seed, 3) as u8,
+            ..heard
+        },
+        3 => WordRecord {
+            bus: other_bus(heard.bus),
+            ..heard
+        },
+        4 => right_record(heard.time.0, heard.bus, heard.sync, draw_word(seed)),
+        _ => heard,
     }
-    next
 }
 
 impl Stream {
@@ -85,32 +82,38 @@ impl Stream {
         }
     }
 
-    // "later(x) = the greater of now and x."
-    pub(crate) fn later(self, time: u64) -> u64 {
-        time.max(self.now)
+    // Gives later(from + ticks): "later(x) = the greater of now and x."
+    pub(crate) fn after(self, ticks: u64) -> u64 {
+        self.from.wrapping_add(ticks).max(self.now)
     }
 
     // "Whenever .. has made its event and the event's time is below END, now becomes that time".
-    fn reached(self, time: u64) -> Stream {
-        let mut next = self;
-        if Moment(time).on_clock() {
-            next.now = time;
+    fn reached(self, time: Moment) -> Stream {
+        if time.on_clock() {
+            Stream {
+                now: time.0,
+                ..self
+            }
+        } else {
+            self
         }
-        next
     }
 
     // Gives the call of a mark.
     pub(crate) fn mark(self, time: u64) -> Made {
-        let call = lend_whole(Event::Mark(Moment(time)));
-        let stream = self.reached(time);
-        Made { call, stream }
+        let moment = Moment(time);
+        Made {
+            call: lend_whole(Event::Mark(moment)),
+            stream: self.reached(moment),
+        }
     }
 
     // Gives the call of a record.
     pub(crate) fn hear(self, heard: WordRecord) -> Made {
-        let call = lend_whole(Event::Word(heard));
-        let stream = self.reached(heard.time.0);
-        Made { call, stream }
+        Made {
+            call: lend_whole(Event::Word(heard)),
+            stream: self.reached(heard.time),
+        }
     }
 
     // "P(time, bus, sync, word)"
@@ -140,22 +143,22 @@ impl Stream {
     // Gives the next call of the fixed part.
     fn next_fixed(self, sweep: Sweep) -> Made {
         let swept = sweep.next();
-        let after = swept.sweep;
-        let call = swept.call;
-        let mut stream = self;
-        stream.sweep = after;
-        Made { call, stream }
+        let stream = Stream {
+            sweep: swept.sweep,
+            ..self
+        };
+        Made {
+            call: swept.call,
+            stream,
+        }
     }
 
     // Gives the next call.
     pub(crate) fn next(self, seed: &mut u64) -> Made {
-        if let Some(sweep) = self.sweep {
-            return self.next_fixed(sweep);
-        }
-        if self.started {
-            self.choose(seed)
-        } else {
-            self.set_up(seed)
+        match self.sweep {
+            Some(sweep) => self.next_fixed(sweep),
+            None if self.started => self.choose(seed),
+            None => self.set_up(seed),
         }
     }
 }

@@ -10,55 +10,43 @@ pub(crate) const START: u64 = 0xCBF2_9CE4_8422_2325;
 const PRIME: u64 = 0x100_0000_01B3;
 
 // what stands for no next moment: "2^64 - 1 for none"
-const NEVER: u64 = 0xFFFF_FFFF_FFFF_FFFF;
+const NEVER: u64 = u64::MAX;
 
 pub(crate) fn add_byte(sum: u64, byte: u8) -> u64 {
-    times(sum ^ (byte as u64), PRIME)
+    times(sum ^ u64::from(byte), PRIME)
+}
+
+fn add_bytes(sum: u64, bytes: &[u8]) -> u64 {
+    bytes.iter().fold(sum, |sum, byte| add_byte(sum, *byte))
 }
 
 // "Numbers of more than one byte go in highest byte first."
-fn add_short(sum: u64, number: u16) -> u64 {
-    let high = add_byte(sum, (number >> 8) as u8);
-    add_byte(high, (number % 256) as u8)
-}
-
-fn quarter(number: u64) -> u16 {
-    (number % 65536) as u16
+pub(crate) fn add_short(sum: u64, number: u16) -> u64 {
+    add_bytes(sum, &number.to_be_bytes())
 }
 
 fn add_long(sum: u64, number: u64) -> u64 {
-    let first = add_short(sum, quarter(number >> 48));
-    let second = add_short(first, quarter(number >> 32));
-    let third = add_short(second, quarter(number >> 16));
-    add_short(third, quarter(number))
+    add_bytes(sum, &number.to_be_bytes())
 }
 
-// Gives a bit where it is on.
-fn bit(on: bool, weight: u8) -> u8 {
-    if on { weight } else { 0 }
-}
-
-fn add_words(sum: u64, words: [u16; 32], count: u16) -> u64 {
-    let mut next = sum;
-    for word in words.iter().take(count as usize) {
-        next = add_short(next, *word);
-    }
-    next
+fn add_words(sum: u64, words: &[u16]) -> u64 {
+    words.iter().fold(sum, |sum, word| add_short(sum, *word))
 }
 
 // 2: "1 byte, 1 if it carries an answer, plus 2 if it cut a sending; then for an answer: bus 1, due time 8, status 2, number of data words
 // 1, each word 2 bytes"
-pub(crate) fn add_answer(sum: u64, answer: Option<Answer>, cut: bool) -> u64 {
-    let carried = add_byte(sum, bit(answer.is_some(), 1) | bit(cut, 2));
-    let Some(answer) = answer else {
-        return carried;
+pub(crate) fn add_answer(sum: u64, carried: Option<Answer>, cut: bool) -> u64 {
+    let kinds = u8::from(carried.is_some()) | u8::from(cut) << 1;
+    let told = add_byte(sum, kinds);
+    let Some(answer) = carried else {
+        return told;
     };
-    let bus = add_byte(carried, answer.bus);
+    let bus = add_byte(told, answer.bus);
     let due = add_long(bus, answer.due.0);
     let status = add_short(due, answer.status.0);
     let count = add_byte(status, (answer.count % 256) as u8);
-    let words = answer.words;
-    add_words(count, words, answer.count)
+    let given = usize::from(answer.count).min(answer.words.len());
+    add_words(count, &answer.words[..given])
 }
 
 // "16 last spacing fault overlapping + 32 last spacing fault separated"
@@ -72,18 +60,15 @@ fn spacing_bits(fault: Option<SpacingFault>) -> u8 {
 
 // "1 byte (1 self-test request + 2 A shut + 4 B shut + 8 terminal flag inhibited + ..)"
 fn flags(terminal: Terminal) -> u8 {
-    bit(terminal.wants_selftest(), 1)
-        | bit(terminal.is_shut_down(0), 2)
-        | bit(terminal.is_shut_down(1), 4)
-        | bit(terminal.is_inhibited(), 8)
+    u8::from(terminal.wants_selftest())
+        | u8::from(terminal.is_shut_down(0)) << 1
+        | u8::from(terminal.is_shut_down(1)) << 2
+        | u8::from(terminal.is_inhibited()) << 3
         | spacing_bits(terminal.last_spacing_fault())
 }
 
 fn add_next(sum: u64, next: Option<Moment>) -> u64 {
-    match next {
-        Some(moment) => add_long(sum, moment.0),
-        None => add_long(sum, NEVER),
-    }
+    add_long(sum, next.map_or(NEVER, |moment| moment.0))
 }
 
 // 3: "stored status 2, last command 2, sync word 2, 1 byte (..), last time 8, next moment 8 bytes"
@@ -94,30 +79,4 @@ pub(crate) fn add_state(sum: u64, terminal: Terminal) -> u64 {
     let flagged = add_byte(sync, flags(terminal));
     let time = add_long(flagged, terminal.time.0);
     add_next(time, terminal.next_moment())
-}
-
-// Says whether the receive table differs from its copy. Most often it does not, and this loop is the quicker one.
-fn is_changed(receive: &[u16; 2048], copy: &[u16; 1024]) -> bool {
-    let mut changed: u16 = 0;
-    for (word, old) in receive.iter().zip(copy) {
-        changed |= *word ^ *old;
-    }
-    changed != 0
-}
-
-// 4: "for each place of the receive table, rising, whose word is another than in a copy of the table: place 2, word 2 bytes; then the
-// copy is made anew"
-pub(crate) fn add_received(sum: u64, receive: &[u16; 2048], copy: &mut [u16; 1024]) -> u64 {
-    if !is_changed(receive, copy) {
-        return sum;
-    }
-    let mut next = sum;
-    for (i, old) in copy.iter_mut().enumerate() {
-        let word = receive[i];
-        if word != *old {
-            next = add_short(add_short(next, i as u16), word);
-            *old = word;
-        }
-    }
-    next
 }
