@@ -182,10 +182,32 @@ impl Options {
         Ok(Some(number_at(rt, self.value_place(), wants, u64::MAX)?))
     }
 
-    // Gives the options with a flag more that was not given before.
-    fn take_flag(self, rt: HostRuntime, option: &[u8], given: bool) -> Result<Options, Unread> {
-        self.check_first(rt, option, given)?;
-        Ok(self.after(1))
+    fn take_from(self, rt: HostRuntime) -> Result<Step, Unread> {
+        let from = self.time_given(rt, b"-f", self.from, WANTS_FROM)?;
+        let next = self.after(2);
+        Ok(Step::More(Options { from, ..next }))
+    }
+
+    fn take_to(self, rt: HostRuntime) -> Result<Step, Unread> {
+        let to = self.time_given(rt, b"-t", self.to, WANTS_TO)?;
+        let next = self.after(2);
+        Ok(Step::More(Options { to, ..next }))
+    }
+
+    fn take_only_bad(self, rt: HostRuntime) -> Result<Step, Unread> {
+        self.check_first(rt, b"-e", self.only_bad)?;
+        Ok(Step::More(Options {
+            only_bad: true,
+            ..self.after(1)
+        }))
+    }
+
+    fn take_in_words(self, rt: HostRuntime) -> Result<Step, Unread> {
+        self.check_first(rt, b"-v", self.in_words)?;
+        Ok(Step::More(Options {
+            in_words: true,
+            ..self.after(1)
+        }))
     }
 
     // Takes the option, or the first name, that the argument behind those that were looked at is.
@@ -193,34 +215,10 @@ impl Options {
         match text {
             b"-b" => self.take_bus(rt),
             b"-a" => self.take_address(rt),
-            b"-f" => {
-                let from = self.time_given(rt, text, self.from, WANTS_FROM)?;
-                Ok(Step::More(Options {
-                    from,
-                    ..self.after(2)
-                }))
-            }
-            b"-t" => {
-                let to = self.time_given(rt, text, self.to, WANTS_TO)?;
-                Ok(Step::More(Options {
-                    to,
-                    ..self.after(2)
-                }))
-            }
-            b"-e" => {
-                let next = self.take_flag(rt, text, self.only_bad)?;
-                Ok(Step::More(Options {
-                    only_bad: true,
-                    ..next
-                }))
-            }
-            b"-v" => {
-                let next = self.take_flag(rt, text, self.in_words)?;
-                Ok(Step::More(Options {
-                    in_words: true,
-                    ..next
-                }))
-            }
+            b"-f" => self.take_from(rt),
+            b"-t" => self.take_to(rt),
+            b"-e" => self.take_only_bad(rt),
+            b"-v" => self.take_in_words(rt),
             b"-h" | b"--help" => Err(Unread::Help),
             b"--" => Ok(self.files_after(1)),
             _ if !is_option(text) => Ok(self.files_after(0)),

@@ -50,7 +50,7 @@ impl<'a> Job<'a> {
     // "more messages, another period or an impossible plan is refused with 15": that line alone.
     fn refuse(self, rt: HostRuntime, draft: Draft, refusal: Refusal) -> bool {
         explain_refusal(draft, self.name);
-        end(rt, Closing::Refused(refusal))
+        end(rt, Closing::Refused(refusal.number()))
     }
 
     // Ends the lines of a plan that overloads a frame, behind all messages and frames.

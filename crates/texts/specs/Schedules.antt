@@ -1,6 +1,5 @@
 -- docs/LINES.md, "busplan FILE": its lines (02 j). Assumes nothing.
 use Rattle.std.specs.Prelude.{ℕ, Bool, cond, List, ◌∷◌, ◌++◌, eqb}
-use Rattle.words.specs.Refusals.{number_of}
 use Rattle.schedule.specs.Messages.{load_of}
 use Rattle.schedule.specs.declared.messages.Message.{Message}
 use Rattle.lines.specs.Sinks.{word_text}
@@ -36,7 +35,7 @@ abbrev pub closing_text : Closing → List ℕ
 closing_text Accepted = text_of "# accepted"
 closing_text (RejectedFrame frame) = number_text (text_of "# rejected frame=") frame
 closing_text (RejectedMessage message) = number_text (text_of "# rejected message=") message
-closing_text (Refused refusal) = number_text (text_of "# refused ") (number_of refusal)
+closing_text (Refused number) = number_text (text_of "# refused ") number
 closing_text NoSchedule = text_of "# none"
 closing_text (BadLine line) = number_text (text_of "# error line=") line
 

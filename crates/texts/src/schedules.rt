@@ -9,7 +9,6 @@ ghost use Rattle.texts.specs.Schedules.{brief_text, words_text, planned_text, sl
 use crate::entries::spell_pair;
 use lines::{Block, LINE_MOST, Sink, spell_byte, spell_number, spell_text, spell_word};
 use schedule::Message;
-use words::Refusal;
 
 // How the reading, the check or the planner ended.
 #[derive(Clone, Copy)]
@@ -17,7 +16,8 @@ pub enum Closing {
     Accepted,
     RejectedFrame(u64),
     RejectedMessage(u64),
-    Refused(Refusal),
+    // by that number: any is put, as of a log (`put_log_refused`)
+    Refused(u8),
     NoSchedule,
     BadLine(u64),
 }
@@ -132,10 +132,7 @@ fn spell_closing(block: &mut Block, at: usize, closing: Closing) -> usize
         Closing::RejectedMessage(number) => {
             spell_number(block, at, b"# rejected message=", number)
         }
-        Closing::Refused(refusal) => {
-            let number = u64::from(refusal.number());
-            spell_number(block, at, b"# refused ", number)
-        }
+        Closing::Refused(number) => spell_number(block, at, b"# refused ", u64::from(number)),
         Closing::NoSchedule => spell_text(block, at, b"# none"),
         Closing::BadLine(line) => spell_number(block, at, b"# error line=", line),
     }

@@ -17,6 +17,12 @@ pub struct Finding {
     pub looked: u8,
 }
 
+// What stands beside a refusal that is passed on: nobody gets it.
+const NOTHING_FOUND: Finding = Finding {
+    verdict: Verdict::Good,
+    looked: 0,
+};
+
 impl Plan {
     // Checks a returned record, the one before it at that moment.
     #[tactic(auto, unfolding(crate::specs::Verdicts::record_checks))]
@@ -76,7 +82,11 @@ impl Plan {
         let mut last = self.last;
         let mut found: Option<Verdict> = None;
         for bytes in records.chunks(RECORD_BYTES) {
-            let heard = read_record(bytes, LAST_BUS)?;
+            let read = read_record(bytes, LAST_BUS);
+            // document 01 names this form for the place where a refusal of the reader is passed on
+            let Ok(heard) = read else {
+                return read.map(|_| NOTHING_FOUND);
+            };
             self.check_record(last, heard)?;
             if found.is_none() {
                 found = self.look(sent, looked, last, heard);

@@ -2,7 +2,6 @@
 use native.Mathlib.Omega.{arith}
 use mathlib.Core.Path.{◌≡◌, sym, ap}
 use Rattle.std.proofs.Common.{rules}
-use Rattle.words.specs.Refusals.{number_of}
 use Rattle.lines.specs.Spells.{text_of}
 use Rattle.texts.proofs.Choices.{number_as}
 use Rattle.lines.proofs.Spellings.{spelled_as}
@@ -27,7 +26,7 @@ returns-in-RejectedMessage c =
 pub returns-in-Refused : goal.returns-in-Refused
 returns-in-Refused c =
     let spelled = c.spell_number-in-Refused.ensures in
-    let same : c.from-number.result ≡ number_of c.in-Refused.refusal = search rules in
+    let same : c.from.result ≡ c.in-Refused.number = search rules in
     record { text = spelled_as (ap closing_text (sym c.in-Refused.is)) (number_as (text_of "# refused ") same spelled.text); most = omega (arith, spelled.most) }
 
 pub returns-in-NoSchedule : goal.returns-in-NoSchedule

@@ -2,7 +2,7 @@
 use mathlib.Core.Path.{◌≡◌, sym, ap, ◌∙◌}
 use native.Mathlib.Omega.{arith}
 use Rattle.std.proofs.Common.{rules}
-use Rattle.std.proofs.lemmas.Result.{err_from_is_err_and}
+use Rattle.std.proofs.lemmas.Result.{err_from_is_err_and, MatchResult-at_err}
 use Rattle.std.specs.Prelude.{true, false, is_none, length, Ok}
 use Rattle.std.specs.Slice.Iter.{chunks_rest}
 use Rattle.verdict.proofs.Ranges.{looked_fits}
@@ -19,25 +19,24 @@ loop-bytes-init c =
       left = rw (c.into_iter-bytes-iterator.ensures.into_iter_gives, c.chunks-bytes-items.ensures.rest) (start c.args.self c.args.records.now);
     }
 
-pub returns-in_err-heard : goal.returns-in_err-heard
-returns-in_err-heard c =
-    let p = err_from_is_err_and c.from_residual.result c.from_residual.ensures.1 in
+pub returns-in_default : goal.returns-in_default
+returns-in_default c =
     let next = next_of _ c.loop-bytes.invariant.size _ _ _ c.in-Some.ensures.steps.1 in
-    rw (p.1, p.2)
-    (record { judged = unread _ _ _ _ _ _ c.loop-bytes.invariant.left _ _ next _ (sym c.read_record.ensures.read ∙ c.in_err-heard.was) })
+    let passed = MatchResult-at_err _ _ _ c.in_default.is c.map.ensures.cases in
+    record { judged = passed ∙ unread _ _ _ _ _ _ c.loop-bytes.invariant.left _ _ next _ (sym c.read_record-read.ensures.read ∙ c.in_default.is) }
 
 pub returns-in_err-check_record : goal.returns-in_err-check_record
 returns-in_err-check_record c =
-    let p = err_from_is_err_and c.from_residual-in_err-check_record.result c.from_residual-in_err-check_record.ensures.1 in
+    let p = err_from_is_err_and c.from_residual.result c.from_residual.ensures.1 in
     let next = next_of _ c.loop-bytes.invariant.size _ _ _ c.in-Some.ensures.steps.1 in
-    let read = sym c.read_record.ensures.read ∙ c.in_ok-heard.was in
+    let read = sym c.read_record-read.ensures.read ∙ c.in-Ok.is in
     rw (p.1, p.2)
     (record { judged = refused _ _ _ _ _ _ c.loop-bytes.invariant.left _ _ next _ read _ (sym c.check_record.ensures.checks ∙ c.in_err-check_record.was) })
 
 pub loop-bytes-preserved : goal.loop-bytes-preserved
 loop-bytes-preserved c =
     let next = next_of _ c.loop-bytes.invariant.size _ _ _ c.in-Some.ensures.steps.1 in
-    let read = sym c.read_record.ensures.read ∙ c.in_ok-heard.was in
+    let read = sym c.read_record-read.ensures.read ∙ c.in-Ok.is in
     let ok = sym c.check_record.ensures.checks ∙ c.in_ok-check_record.was in
     record {
       size = c.in-Some.ensures.steps.0 ∙ c.loop-bytes.invariant.size;
