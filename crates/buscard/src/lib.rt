@@ -53,7 +53,7 @@ pub extern "C" fn bus_word_spaced(before: u64, after: u64) -> u8
 }
 
 // Gives 0 if the second word overlaps the first, 1 if it is back to back, 2 if it is separated from it, and how many ticks past the first it comes.
-// Tables: distance holds the ticks, 0 where the second is not later. Refusals: none.
+// Each arm has its ticks: one binding for all would match twice. Tables: distance holds the ticks, 0 where the second is not later. Refusals: none.
 #[unsafe(no_mangle)]
 pub extern "C" fn bus_word_spacing(before: u64, after: u64, distance: &mut u64) -> u8
     ensures kind { result ≡ spacing_number (spacing_of before after) }

@@ -2,14 +2,11 @@
 // argument is said on standard error, and then nothing else is done.
 use crate::complaints::refuse;
 use lines::{NAME_BYTES, read_decimal};
+use records::{BUS_A, BUS_B};
 use status::{Asked, ask, count_arguments, is_option};
 use std::env::FillError;
 use texts::Wanted;
 use words::CommandWord;
-
-pub(crate) const BUS_A: u8 = 0;
-
-pub(crate) const BUS_B: u8 = 1;
 
 const WANTS_FROM: &[u8] = b"-f wants ticks, a whole number below 2^64 in 1 to 20 digits";
 
@@ -29,7 +26,8 @@ pub(crate) struct Options {
     pub(crate) first: usize,
 }
 
-// Why a call dumps nothing: it asks for help, it names no file, or an argument is wrong, which was said.
+// Why a call dumps nothing: it asks for help, it names no file, or an argument is wrong, which was said. `busplan` has one like it: both are of the
+// program's own options, and shared they would be a public type with closures for eight lines.
 #[derive(Clone, Copy)]
 pub(crate) enum Unread {
     Help,

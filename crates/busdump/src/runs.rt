@@ -2,7 +2,8 @@
 // which gets the number of a closed standard error takes none of what is said. Refusals: as the closing line of a file says them.
 use crate::complaints::{PROGRAM, explain_beginning, explain_record};
 use crate::dumps::Dump;
-use crate::options::{BUS_A, BUS_B, Options};
+use crate::options::Options;
+use records::{BUS_A, BUS_B};
 use crate::outputs::put_title;
 use crate::readers::{Reader, Unbegun, open};
 use crate::tallies::{Tally, byte_of};

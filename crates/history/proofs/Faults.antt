@@ -4,7 +4,7 @@ use Prim.Native.Nat.{ℕ}
 use mathlib.Core.Bool.{Bool, true, false, not, cond, ◌&&◌, ◌||◌, or-true}
 use mathlib.Core.List.{List}
 use borrow.Author.Tests.{not-true}
-use Rattle.words.proofs.Truth.{and_both}
+use Rattle.std.proofs.lemmas.Bool.{and_parts}
 use Rattle.records.specs.declared.forms.WordRecord.{WordRecord}
 use Rattle.terminal.specs.States.{at_time}
 use Rattle.terminal.specs.Commands.{is_own, is_exempt}
@@ -130,7 +130,7 @@ marked_comes s e transmit marks =
     let exempt : Bool = is_exempt s.setup.own s.message.command.0 in
     let over : Bool = is_over s.message (time_of e) in
     let bad : Bool = has_bad_word (passed_of s (time_of e) transmit) e in
-    let parts = and_both (not exempt) (over || bad) (ap (λ (b : Bool). not exempt && b) (sym (fault_either s e transmit)) ∙ marks) in
+    let parts = and_parts (not exempt) (over || bad) (ap (λ (b : Bool). not exempt && b) (sym (fault_either s e transmit)) ∙ marks) in
     let plain : exempt ≡ false = not-true exempt parts.0 in
     or_cases over bad parts.1 (time_comes s transmit plain e) (word_comes s transmit plain e)
 

@@ -11,7 +11,7 @@ use lib.Seq.{length-paste}
 use borrow.Author.Tests.{leb-true, le-leb, ltb-true, lt-ltb, eqb-true, eq-eqb}
 use Rattle.words.specs.Words.{due_distance, spacing_most, words_of}
 use Rattle.words.specs.declared.times.Moment.{Moment}
-use Rattle.words.proofs.Truth.{and_both}
+use Rattle.std.proofs.lemmas.Bool.{and_parts}
 use Rattle.words.proofs.Counts.{words_most}
 use Rattle.terminal.specs.States.{no_message, at_time}
 use Rattle.terminal.specs.Messages.{is_under_way, awaits_data, is_whole, is_due, is_late, first_word_distance, awaits_first, is_overdue, is_over}
@@ -37,21 +37,21 @@ use Rattle.history.proofs.Faults.{over_not_due, over_faulty}
 due_later : (m : Message) (t u : ℕ) → t ≤ u → is_due m t ≡ true → is_due m u ≡ true
 unfolding is_due
 due_later m t u later due =
-    let parts = and_both (is_whole m) (leb (m.last.0 + due_distance) t) due in
+    let parts = and_parts (is_whole m) (leb (m.last.0 + due_distance) t) due in
     let reached = leb-true (m.last.0 + due_distance) t parts.1 in
     rw (parts.0, le-leb (m.last.0 + due_distance) u (omega (arith, reached, later)))
 
 late_later : (m : Message) (t u : ℕ) → t ≤ u → is_late m t ≡ true → is_late m u ≡ true
 unfolding is_late
 late_later m t u later late =
-    let parts = and_both (awaits_data m) (ltb (m.last.0 + spacing_most) t) late in
+    let parts = and_parts (awaits_data m) (ltb (m.last.0 + spacing_most) t) late in
     let passed = ltb-true (m.last.0 + spacing_most) t parts.1 in
     rw (parts.0, lt-ltb (m.last.0 + spacing_most) u (omega (arith, passed, later)))
 
 overdue_later : (m : Message) (t u : ℕ) → t ≤ u → is_overdue m t ≡ true → is_overdue m u ≡ true
 unfolding is_overdue
 overdue_later m t u later overdue =
-    let parts = and_both (awaits_first m) (ltb (m.start.0 + first_word_distance) t) overdue in
+    let parts = and_parts (awaits_first m) (ltb (m.start.0 + first_word_distance) t) overdue in
     let passed = ltb-true (m.start.0 + first_word_distance) t parts.1 in
     rw (parts.0, lt-ltb (m.start.0 + first_word_distance) u (omega (arith, passed, later)))
 
@@ -234,7 +234,7 @@ then_accepted : (s : State) (t : Moment) (e : Event) (receive transmit : List �
 unfolding passed_of
 then_accepted s t e receive transmit places ok later =
     let p = shown s e receive transmit ok in
-    let lengths = and_both (eqb (length receive) 1024) (eqb (length transmit) 1024) p.tables in
+    let lengths = and_parts (eqb (length receive) 1024) (eqb (length transmit) 1024) p.tables in
     let long = table_long s t.0 receive places (eqb-true (length receive) 1024 lengths.0) in
     accepts (passed_of s t.0 transmit) e (rule1_receive s t.0 receive) transmit
     (record {

@@ -9,7 +9,7 @@ use lib.ListN.{length, take, length-append, length-set}
 use lib.Seq.{take-suc-set}
 use borrow.Author.Tests.{le-ltb, lt-ltb, lt-leb, eq-eqb, ne_eqb, eqb-false, not-true}
 use Rattle.words.specs.Words.{due_distance, spacing_most, command_sync, data_sync, awaited_of}
-use Rattle.words.proofs.Truth.{and_both}
+use Rattle.std.proofs.lemmas.Bool.{and_parts}
 use Rattle.records.specs.declared.forms.WordRecord.{WordRecord}
 use Rattle.terminal.specs.States.{with_selftest, no_sending, with_message, at_time}
 use Rattle.terminal.specs.Commands.{is_valid_record, is_own}
@@ -104,7 +104,7 @@ module _ (begun : State) (m : Message) (s : State) (way : Way begun m s) (bus : 
   takes (Mark t) receive transmit harmless = refl
   takes (Word r) receive transmit harmless =
       let own : Bool = is_own s.setup.own r in
-      let parts = and_both (not (eqb r.bus bus)) (not own) harmless in
+      let parts = and_parts (not (eqb r.bus bus)) (not own) harmless in
       passed_over (at_time s r.time.0) r (not-true own parts.1) (off r parts.0)
 
   event_keeps : (e : Event) (receive transmit : List ℕ) → is_accepted s e receive transmit ≡ true

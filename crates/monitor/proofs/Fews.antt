@@ -1,10 +1,9 @@
 -- A second command is never a status that is expected, and an entry has at most two statuses. Assumes nothing.
 use Rattle.std.proofs.Common.{◌≡◌, ℕ, ◌≤◌, Bool, true, false, cond, not, ◌&&◌, ◌||◌, eqb, ◌⊎◌, List, [], ◌∷◌, length, sym, refl, ◌∙◌, inl, inr, true≢false, arith, ne_eqb, eqb-true}
-use Rattle.std.proofs.lemmas.Bool.{or_parts, or_cases}
+use Rattle.std.proofs.lemmas.Bool.{or_parts, or_cases, and_parts}
 use borrow.Author.Tests.{eqb-false, not-true}
 use Rattle.words.specs.Words.{is_spaced, address_of, count_of, is_transmit, is_mode, is_broadcast}
 use Rattle.words.specs.declared.times.Moment.{Moment}
-use Rattle.words.proofs.Truth.{and_both}
 use Rattle.records.specs.declared.forms.WordRecord.{WordRecord}
 use Rattle.verdict.specs.Plans.{is_pair}
 use Rattle.monitor.specs.Entries.{is_command, is_second, commands_of, behind_of, statuses_in, statuses_by, statuses_of, is_for, is_from, expects, part_of}
@@ -26,9 +25,9 @@ unfolding is_second is_pair
 other_address first r h =
     let four = not (is_transmit first.word) && not (is_mode first.word) && is_transmit r.word && not (is_mode r.word) in
     let other = not (eqb (address_of r.word) (address_of first.word) || is_broadcast r.word) in
-    let pair = (and_both (is_command r && is_spaced first.time.0 r.time.0) (is_pair first.word r.word) h).1 in
-    let five = (and_both (four && other) (eqb (count_of r.word) (count_of first.word)) pair).0 in
-    let differ = (and_both four other five).1 in
+    let pair = (and_parts (is_command r && is_spaced first.time.0 r.time.0) (is_pair first.word r.word) h).1 in
+    let five = (and_parts (four && other) (eqb (count_of r.word) (count_of first.word)) pair).0 in
+    let differ = (and_parts four other five).1 in
     (or_parts (eqb (address_of r.word) (address_of first.word)) (is_broadcast r.word) (not-true _ differ)).0
 
 and_no : (a b c : Bool) → b ≡ false → (a && b && c) ≡ false
@@ -109,8 +108,8 @@ few_as first rest r few Second (second s) h = few_second rest s
     few_second (x ∷ others) s = absurd (second_first first x others r s)
 few_as first rest r few Status (status c s e) h =
     let still = stays first rest r s in
-    let parts = and_both (not (is_broadcast r.word) && is_for (commands_of first rest) (address_of r.word)) (not (is_from (statuses_of first rest) (address_of r.word))) e in
-    let asked = and_both (not (is_broadcast r.word)) (is_for (commands_of first rest) (address_of r.word)) parts.0 in
+    let parts = and_parts (not (is_broadcast r.word) && is_for (commands_of first rest) (address_of r.word)) (not (is_from (statuses_of first rest) (address_of r.word))) e in
+    let asked = and_parts (not (is_broadcast r.word)) (is_for (commands_of first rest) (address_of r.word)) parts.0 in
     rw (still.commands, still.behind, statuses_more (behind_of first rest) r c)
     (few_more (commands_of first rest) (statuses_in (behind_of first rest)) r few asked.1 (not-true (is_from (statuses_of first rest) (address_of r.word)) parts.1))
 few_as first rest r few Other (other c) h =

@@ -62,7 +62,7 @@ pub struct Logged {
 fn is_word(heard: WordRecord, sync: u8) -> bool
     ensures answer { result ≡ is_word heard sync }
 {
-    words::is_valid(heard.sync, heard.faults, heard.word, heard.parity) & (heard.sync == sync)
+    heard.is_valid() & (heard.sync == sync)
 }
 
 // Says whether the record is a valid word with command sync.
@@ -136,7 +136,7 @@ impl Commands {
         }
     }
 
-    // Says whether one of the commands goes to that address.
+    // Says whether one of the commands goes to that address. `Statuses::is_from` is much like it: a trait over both words would be longer.
     #[tactic(auto, unfolding(crate::specs::Entries::is_for))]
     pub(crate) fn is_for(self, address: u16) -> bool
         ensures answer { result ≡ is_for self address }

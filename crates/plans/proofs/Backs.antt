@@ -2,7 +2,8 @@
 use Rattle.std.specs.Prelude.{None, Some, Ok}
 use Rattle.std.proofs.Common.{◌≡◌, ℕ, ◌/◌, ◌%◌, ◌^◌, ◌<◌, ◌≤◌, Bool, true, false, cond, not, ◌&&◌, eqb, ltb, leb, List, [], ◌∷◌, ◌++◌, length, sym, refl, ap, ◌∙◌, ⊎_elim, append_assoc, append-nil, arith, length-append, le-ltb, lt-ltb, ne_eqb, le-leb, leb-true}
 use borrow.Author.Tests.{not-true}
-use Rattle.words.proofs.Truth.{and_both, passes, passed}
+use Rattle.words.proofs.Truth.{passes, passed}
+use Rattle.std.proofs.lemmas.Bool.{and_parts}
 use Rattle.words.specs.declared.commands.CommandWord.{CommandWord}
 use Rattle.lines.specs.Numbers.{is_digit, are_digits, spelled_after, number_after, number_read, hexadecimal_read}
 use Rattle.lines.specs.Sinks.{digit_of, word_text, decimal_in, decimal_text}
@@ -28,10 +29,10 @@ are_in_part (byte ∷ bytes) = in_part byte && are_in_part bytes
 
 module _ (byte : ℕ) (inside : in_part byte ≡ true) where
   at_least : 48 ≤ byte
-  at_least = leb-true 48 byte (and_both (leb 48 byte) (leb byte 122) inside).0
+  at_least = leb-true 48 byte (and_parts (leb 48 byte) (leb byte 122) inside).0
 
   at_most : byte ≤ 122
-  at_most = leb-true byte 122 (and_both (leb 48 byte) (leb byte 122) inside).1
+  at_most = leb-true byte 122 (and_parts (leb 48 byte) (leb byte 122) inside).1
 
   no_space_byte : eqb byte 32 ≡ false
   no_space_byte = ne_eqb byte 32 (λ e. omega (arith, e, at_least))
@@ -56,7 +57,7 @@ module _ (rest : List ℕ) where
   unfolding tight_from are_in_part
   part_tight [] before i = ap (λ (b : List ℕ). tight_from b false rest) (sym (append-nil before))
   part_tight (byte ∷ bytes) before i =
-      let both = and_both (in_part byte) (are_in_part bytes) i in
+      let both = and_parts (in_part byte) (are_in_part bytes) i in
       rw (no_space_byte byte both.0)
       (part_tight bytes (before ++ (byte ∷ [])) both.1 ∙ ap (λ (b : List ℕ). tight_from b false rest) (append_assoc before (byte ∷ []) bytes))
 
@@ -64,7 +65,7 @@ module _ (rest : List ℕ) where
   unfolding split_from are_in_part
   part_split [] before i = ap (λ (b : List ℕ). split_from b rest) (sym (append-nil before))
   part_split (byte ∷ bytes) before i =
-      let both = and_both (in_part byte) (are_in_part bytes) i in
+      let both = and_parts (in_part byte) (are_in_part bytes) i in
       rw (no_space_byte byte both.0)
       (part_split bytes (before ++ (byte ∷ [])) both.1 ∙ ap (λ (b : List ℕ). split_from b rest) (append_assoc before (byte ∷ []) bytes))
 
@@ -72,7 +73,7 @@ module _ (rest : List ℕ) where
   unfolding lines_from are_in_part
   part_line [] before i = ap (λ (b : List ℕ). lines_from b rest) (sym (append-nil before))
   part_line (byte ∷ bytes) before i =
-      let both = and_both (in_part byte) (are_in_part bytes) i in
+      let both = and_parts (in_part byte) (are_in_part bytes) i in
       rw (no_end_byte byte both.0)
       (part_line bytes (before ++ (byte ∷ [])) both.1 ∙ ap (λ (b : List ℕ). lines_from b rest) (append_assoc before (byte ∷ []) bytes))
 
@@ -80,21 +81,21 @@ module _ (rest : List ℕ) where
   unfolding before_remark are_in_part
   part_said [] i = refl
   part_said (byte ∷ bytes) i =
-      let both = and_both (in_part byte) (are_in_part bytes) i in
+      let both = and_parts (in_part byte) (are_in_part bytes) i in
       rw (no_remark_byte byte both.0) (ap (λ (b : List ℕ). byte ∷ b) (part_said bytes both.1))
 
   part_signs : (part : List ℕ) → are_in_part part ≡ true → before_control (part ++ rest) ≡ part ++ before_control rest
   unfolding before_control are_in_part
   part_signs [] i = refl
   part_signs (byte ∷ bytes) i =
-      let both = and_both (in_part byte) (are_in_part bytes) i in
+      let both = and_parts (in_part byte) (are_in_part bytes) i in
       rw (no_control_byte byte both.0) (ap (λ (b : List ℕ). byte ∷ b) (part_signs bytes both.1))
 
   part_no_control : (part : List ℕ) → are_in_part part ≡ true → has_control (part ++ rest) ≡ has_control rest
   unfolding has_control are_in_part
   part_no_control [] i = refl
   part_no_control (byte ∷ bytes) i =
-      let both = and_both (in_part byte) (are_in_part bytes) i in
+      let both = and_parts (in_part byte) (are_in_part bytes) i in
       rw (no_control_byte byte both.0) (part_no_control bytes both.1)
 
 -- ---- a line of parts
@@ -130,7 +131,7 @@ space_tight : (part before rest : List ℕ) → Part part → 1 ≤ length befor
 unfolding tight_from are_in_part
 space_tight [] before rest p l = absurd (omega (arith, p.some))
 space_tight (byte ∷ bytes) before rest p l =
-    let both = and_both (in_part byte) (are_in_part bytes) p.inside in
+    let both = and_parts (in_part byte) (are_in_part bytes) p.inside in
     rw (no_space_byte byte both.0, ne_eqb (length before) 0 (λ z. omega (arith, z)))
     (part_tight rest bytes (before ++ (32 ∷ byte ∷ [])) both.1 ∙ ap (λ (b : List ℕ). tight_from b false rest) (append_assoc before (32 ∷ byte ∷ []) bytes))
 
@@ -208,8 +209,8 @@ digits_in_part : (text : List ℕ) → are_digits text ≡ true → are_in_part 
 unfolding are_digits are_in_part
 digits_in_part [] h = refl
 digits_in_part (byte ∷ bytes) h =
-    let both = and_both (is_digit byte) (are_digits bytes) h in
-    let digit = and_both (leb 48 byte) (leb byte 57) both.0 in
+    let both = and_parts (is_digit byte) (are_digits bytes) h in
+    let digit = and_parts (leb 48 byte) (leb byte 57) both.0 in
     rw (digit.0, le-leb byte 122 (omega (arith, leb-true byte 57 digit.1))) (digits_in_part bytes both.1)
 
 -- a text that spells a number has 1 to 20 bytes, all digits

@@ -1,7 +1,7 @@
 -- What is written of a schedule, read, is the schedule: line by line, then the tables that the lines fill. Assumes nothing.
 use Rattle.std.proofs.Common.{◌≡◌, ℕ, suc, ◌+◌, ◌^◌, ◌<◌, ◌≤◌, Bool, true, false, cond, not, ◌&&◌, eqb, leb, List, [], ◌∷◌, ◌++◌, map, length, get_or, take, drop, set, replicate, sym, refl, ap, ◌∙◌, ap₂, append_assoc, append-nil, add-one, arith, drop_of_length-le, length-take-le, eqb-true, le-leb}
 use lib.Seq.{sets, sets-eq, take-append_seam}
-use Rattle.words.proofs.Truth.{and_both}
+use Rattle.std.proofs.lemmas.Bool.{and_parts}
 use Rattle.lines.specs.Sinks.{decimal_text}
 use Rattle.schedule.specs.declared.messages.Message.{Message}
 use Rattle.schedule.specs.declared.schedules.Schedule.{Schedule}
@@ -93,7 +93,7 @@ same_all : (ticks : ℕ) (capacities : List ℕ) → are_all ticks capacities �
 unfolding are_all
 same_all ticks [] h = refl
 same_all ticks (number ∷ numbers) h =
-    let both = and_both (eqb number ticks) (are_all ticks numbers) h in
+    let both = and_parts (eqb number ticks) (are_all ticks numbers) h in
     ap₂ (λ (n : ℕ) (ns : List ℕ). n ∷ ns) (eqb-true number ticks both.0) (same_all ticks numbers both.1)
 
 first_fits : (capacities : List ℕ) → AllFit capacities → get_or capacities 0 0 < 2 ^ 64

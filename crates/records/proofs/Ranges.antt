@@ -5,7 +5,7 @@ use Prim.Native.Nat.{ℕ, ◌^◌, ◌<◌, ◌≤◌}
 use lib.Dec.{leb}
 use borrow.Author.Tests.{ltb-true, leb-true, lt-ltb, le-leb}
 use Rattle.words.specs.Words.{on_clock}
-use Rattle.words.proofs.Truth.{and_both}
+use Rattle.std.proofs.lemmas.Bool.{and_parts}
 use Rattle.records.specs.Records.{in_range}
 use Rattle.records.specs.declared.forms.WordRecord.{WordRecord}
 
@@ -20,10 +20,10 @@ pub record Ranged (last : ℕ) (r : WordRecord) : Type 0 where
 pub in_range_all : (last : ℕ) (r : WordRecord) → in_range last r ≡ true → Ranged last r
 in_range_all last r h =
     let clock = on_clock r.time.0 in
-    let to-parity = and_both (clock && leb r.bus last && leb r.sync 2 && leb r.faults 3) (leb r.parity 1) h in
-    let to-faults = and_both (clock && leb r.bus last && leb r.sync 2) (leb r.faults 3) to-parity.0 in
-    let to-sync = and_both (clock && leb r.bus last) (leb r.sync 2) to-faults.0 in
-    let to-bus = and_both clock (leb r.bus last) to-sync.0 in
+    let to-parity = and_parts (clock && leb r.bus last && leb r.sync 2 && leb r.faults 3) (leb r.parity 1) h in
+    let to-faults = and_parts (clock && leb r.bus last && leb r.sync 2) (leb r.faults 3) to-parity.0 in
+    let to-sync = and_parts (clock && leb r.bus last) (leb r.sync 2) to-faults.0 in
+    let to-bus = and_parts clock (leb r.bus last) to-sync.0 in
     record {
       time = ltb-true r.time.0 (2 ^ 48) to-bus.0;
       bus = leb-true r.bus last to-bus.1;

@@ -16,7 +16,7 @@ pub struct Cursor {
     pub last_bus: u8,
 }
 
-// Gives the last bus of a record in a file of the version that the byte says.
+// Gives the last bus of a record in a file of the version that the byte says: one for all so far, asked where another will differ.
 fn last_bus_of(version: u8) -> u8
     ensures bus { result ≡ last_bus_of version }
 {

@@ -2,6 +2,7 @@
 // Refusals: 3, 4, 5 reading; 9, 5 writing.
 ghost use Rattle.std.specs.Prelude.{◌≡◌, take};
 ghost use Rattle.records.specs.Numbers.{number_of};
+ghost use Rattle.words.specs.Words.{is_valid};
 ghost use Rattle.records.specs.Records.{in_range, form_of, record_at, read_of, writes, written_of};
 
 use words::{Moment, Refusal};
@@ -11,8 +12,13 @@ const LENGTH: u16 = 14;
 
 pub const RECORD_BYTES: usize = 16;
 
-// "bus (1: 0 is A, 1 is B)": the last bus of a record that is in no file.
-pub const LAST_BUS: u8 = 1;
+// "bus (1: 0 is A, 1 is B)"
+pub const BUS_A: u8 = 0;
+
+pub const BUS_B: u8 = 1;
+
+// The last bus of a record that is in no file.
+pub const LAST_BUS: u8 = BUS_B;
 
 // A word as the receiver handed it over. Any numbers fit; `in_range` says which can be written and read.
 #[derive(Clone, Copy)]
@@ -36,6 +42,14 @@ impl WordRecord {
             & (self.sync <= 2)
             & (self.faults <= 3)
             & (self.parity <= 1)
+    }
+
+    // Says whether its word is valid; any numbers are taken.
+    // Tables: none. Refusals: none.
+    pub fn is_valid(self) -> bool
+        ensures answer { result ≡ is_valid self.sync self.faults self.word self.parity }
+    {
+        words::is_valid(self.sync, self.faults, self.word, self.parity)
     }
 
     // Gives the 16 bytes.

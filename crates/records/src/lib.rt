@@ -6,4 +6,4 @@ mod files;
 mod forms;
 
 pub use files::{Cursor, VERSION, count_records, open_file};
-pub use forms::{LAST_BUS, RECORD_BYTES, WordRecord, read_record};
+pub use forms::{BUS_A, BUS_B, LAST_BUS, RECORD_BYTES, WordRecord, read_record};

@@ -10,7 +10,7 @@ use borrow.Author.Tests.{ltb-true, ltb-false, leb-true, leb-false, lt-ltb, le-lt
 use Rattle.std.specs.Prelude.{Result, Ok, Err}
 use Rattle.words.specs.declared.refusals.Refusal.{Refusal}
 use Rattle.words.specs.declared.refusals.Refusal.TheVariants as refusal
-use Rattle.words.proofs.Truth.{and_both}
+use Rattle.std.proofs.lemmas.Bool.{and_parts}
 use Rattle.schedule.specs.Messages.{messages_most, messages_in, are_fit, is_refused}
 use Rattle.schedule.specs.Frames.{Placed, placed_of, frame_load, frames_all, loads_of, before_offending, before_overloaded, frame_outcome, outcome_of, check_of}
 use Rattle.schedule.specs.Theorems.{period_at, BelowUpTo}
@@ -65,7 +65,7 @@ overloaded ps cs = before_overloaded (loads_of ps) cs
 taken_few : (s : Schedule) → is_refused s ≡ false → length (messages_in s) ≤ messages_most
 unfolding is_refused
 taken_few s taken =
-    let few = leb-true s.count messages_most (and_both _ (are_fit (messages_in s)) (not-false _ taken)).0 in
+    let few = leb-true s.count messages_most (and_parts _ (are_fit (messages_in s)) (not-false _ taken)).0 in
     omega (arith, length-take s.count s.messages)
 
 -- the messages before the first that offends do not, and it does

@@ -6,7 +6,7 @@ use Prim.Native.Nat.{ℕ}
 use lib.Dec.{eqb, leb}
 use borrow.Author.Tests.{eqb-true}
 use Rattle.std.specs.Prelude.{Option, Some, None, is_none}
-use Rattle.words.proofs.Truth.{and_both}
+use Rattle.std.proofs.lemmas.Bool.{and_parts}
 use Rattle.words.specs.declared.refusals.Refusal.{Refusal}
 use Rattle.words.specs.declared.refusals.Refusal.TheVariants.{TableSize, OwnAddress, OutOfRange, OutOfOrder}
 use Rattle.terminal.specs.Events.{set_up_refusal, is_in_range, time_of, event_refusal}
@@ -20,7 +20,7 @@ sizes false o h = absurd (true≢false (sym (ap (λ (o : Option Refusal). is_non
 
 both_sizes : (n m k : ℕ) → (eqb n k && eqb m k) ≡ true → (n ≡ k) × (m ≡ k)
 both_sizes n m k h =
-    let parts = and_both (eqb n k) (eqb m k) h in
+    let parts = and_parts (eqb n k) (eqb m k) h in
     (eqb-true n k parts.0, eqb-true m k parts.1)
 
 pub event_tables : (s : State) (e : Event) (n m : ℕ) → event_refusal s e n m ≡ None → (n ≡ 1024) × (m ≡ 1024)

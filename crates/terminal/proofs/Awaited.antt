@@ -7,7 +7,7 @@ use lib.ListN.{get_or}
 use borrow.Author.Tests.{eqb-true}
 use Rattle.words.specs.Words.{transmit_of, code_of, is_transmit, is_mode, is_broadcast, awaited_of}
 use Rattle.words.specs.Modes.{rows, found, listing_of, allows, is_allowed}
-use Rattle.words.proofs.Truth.{and_both}
+use Rattle.std.proofs.lemmas.Bool.{and_parts}
 use Rattle.words.specs.Masks.{mask_allows}
 use Rattle.words.specs.Words.{count_of}
 use Rattle.terminal.specs.Commands.{mask_of, is_held_illegal, is_legal}
@@ -33,8 +33,8 @@ received word code allowed = go (is_transmit word) refl
 allowed_legal : (setup : Setup) (word : ℕ) → (is_legal setup word && is_mode word) ≡ true → is_allowed word ≡ true
 unfolding is_legal is_held_illegal
 allowed_legal setup word h =
-    let both = and_both (is_legal setup word) (is_mode word) h in
-    let rest = (and_both (mask_allows (mask_of setup word) (count_of word)) (not (cond (is_mode word) (is_held_illegal word) (is_transmit word && is_broadcast word))) both.0).1 in
+    let both = and_parts (is_legal setup word) (is_mode word) h in
+    let rest = (and_parts (mask_allows (mask_of setup word) (count_of word)) (not (cond (is_mode word) (is_held_illegal word) (is_transmit word && is_broadcast word))) both.0).1 in
     go (eqb (code_of word) 20) (eqb (code_of word) 21) (is_allowed word) (rw both.1 at rest)
   where
     go : (a b x : Bool) → not (a || b || not x) ≡ true → x ≡ true
@@ -69,4 +69,4 @@ pub awaited_effect : (setup : Setup) (own : Own) (h : Held) (m : Message) (bus :
 awaited_effect setup own h m bus legal =
     let word = m.command.0 in
     effect_word own h (code_of word) bus (last_awaited m) (get_or m.words 0 0)
-    (λ code. sym (only_word m code (and_both (is_legal setup word) (is_mode word) legal).1 (received word code (allowed_legal setup word legal))))
+    (λ code. sym (only_word m code (and_parts (is_legal setup word) (is_mode word) legal).1 (received word code (allowed_legal setup word legal))))

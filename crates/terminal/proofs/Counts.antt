@@ -7,7 +7,8 @@ use native.Mathlib.Omega.{arith}
 use lib.Dec.{eqb, leb, ltb}
 use borrow.Author.Tests.{ltb-true, leb-true}
 use Rattle.words.proofs.Counts.{words_most}
-use Rattle.words.proofs.Truth.{and_both, cond_most}
+use Rattle.words.proofs.Truth.{cond_most}
+use Rattle.std.proofs.lemmas.Bool.{and_parts}
 use Rattle.words.specs.Words.{code_of, words_of, is_transmit, is_mode, awaited_of}
 use Rattle.terminal.specs.Commands.{is_legal}
 use Rattle.terminal.specs.Messages.{is_counting, awaits_data, is_whole, is_due}
@@ -28,7 +29,7 @@ awaited_most word =
 pub awaits_few : (m : Message) → awaits_data m ≡ true → m.got < 32
 unfolding awaits_data
 awaits_few m h =
-    let parts = and_both (is_counting m.phase) (ltb m.got (awaited_of m.command.0)) h in
+    let parts = and_parts (is_counting m.phase) (ltb m.got (awaited_of m.command.0)) h in
     omega (arith, ltb-true m.got (awaited_of m.command.0) parts.1, awaited_most m.command.0)
 
 -- a reply has at most 32 words
@@ -50,4 +51,4 @@ reply_most s word transmit =
 -- the due time of a message that is due is at most the time
 pub due_most : (m : Message) (t : ℕ) → is_due m t ≡ true → m.last.0 + 260 ≤ t
 unfolding is_due
-due_most m t h = leb-true (m.last.0 + 260) t (and_both (is_whole m) (leb (m.last.0 + 260) t) h).1
+due_most m t h = leb-true (m.last.0 + 260) t (and_parts (is_whole m) (leb (m.last.0 + 260) t) h).1

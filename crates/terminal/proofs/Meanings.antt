@@ -8,7 +8,7 @@ use borrow.Author.Tests.{eqb-true, ne_eqb}
 use Rattle.std.specs.Prelude.{Option, Some, None}
 use Rattle.words.specs.declared.refusals.Refusal.TheVariants.{TableSize, OutOfRange, OutOfOrder}
 use Rattle.words.specs.Words.{word_ticks, on_clock}
-use Rattle.words.proofs.Truth.{and_both}
+use Rattle.std.proofs.lemmas.Bool.{and_parts}
 use Rattle.records.specs.declared.forms.WordRecord.{WordRecord}
 use Rattle.terminal.specs.Commands.{is_own}
 use Rattle.terminal.specs.Messages.{is_on, awaits_data, is_sent, is_sending, is_next_data, is_second, is_status_from}
@@ -94,7 +94,7 @@ pick false m n f g e = g e
 data_few : (m : Message) (r : WordRecord) → is_data_word (data_meaning m r) ≡ true → m.got < 32
 unfolding data_meaning
 data_few m r =
-    pick (awaits_data m && is_next_data m r) _ _ (λ both _. awaits_few m (and_both (awaits_data m) (is_next_data m r) both).0) (λ e. false≢ e)
+    pick (awaits_data m && is_next_data m r) _ _ (λ both _. awaits_few m (and_parts (awaits_data m) (is_next_data m r) both).0) (λ e. false≢ e)
 
 word_few : (p : Phase) (own : Own) (m : Message) (r : WordRecord) → is_data_word (word_meaning p own m r) ≡ true → m.got < 32
 unfolding word_meaning
@@ -129,8 +129,8 @@ one_bus : (o : Option Sending) (bus t : ℕ) → is_sending o bus t ≡ true →
 unfolding is_sending is_sent
 one_bus None bus t h = refl
 one_bus (Some s) bus t h =
-    let tests = (and_both (eqb s.bus bus && leb s.from.0 t) (ltb t (s.from.0 + word_ticks * s.words)) h).0 in
-    let here : s.bus ≡ bus = eqb-true s.bus bus (and_both (eqb s.bus bus) (leb s.from.0 t) tests).0 in
+    let tests = (and_parts (eqb s.bus bus && leb s.from.0 t) (ltb t (s.from.0 + word_ticks * s.words)) h).0 in
+    let here : s.bus ≡ bus = eqb-true s.bus bus (and_parts (eqb s.bus bus) (leb s.from.0 t) tests).0 in
     rw (here, other_bus_else bus) refl
 
 quiet : (b : Bool) (m n : Meaning) → is_beginning m ≡ false → is_beginning n ≡ false → is_beginning (cond b m n) ≡ false

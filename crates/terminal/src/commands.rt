@@ -40,7 +40,7 @@ pub(crate) const SELECTED_OVERRIDE: u16 = 21;
 pub(crate) fn is_valid_record(heard: WordRecord) -> bool
     ensures answer { result ≡ is_valid_record heard }
 {
-    words::is_valid(heard.sync, heard.faults, heard.word, heard.parity)
+    heard.is_valid()
 }
 
 // Says whether the record is an own command.

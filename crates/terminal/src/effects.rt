@@ -12,14 +12,10 @@ use crate::commands::{
 };
 use crate::states::{Held, Message, Own, Terminal};
 use crate::tables::STAGED_WORDS;
+use records::{BUS_A, BUS_B};
 use words::StatusWord;
 
-// "0 is A, 1 is B". Numbers and no enum: the host may ask of any, and a record may have any until it is refused.
-const BUS_A: u8 = 0;
-
-const BUS_B: u8 = 1;
-
-// Gives the other bus.
+// Gives the other bus. Numbers and no enum: the host may ask of any, and a record may have any until it is refused.
 pub(crate) fn other_bus(bus: u8) -> u8
     ensures bus { result ≡ other_bus bus }
 {

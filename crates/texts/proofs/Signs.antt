@@ -8,7 +8,8 @@ use lib.Dec.{eqb, leb}
 use lib.ListN.{length, get_or, length-append}
 use borrow.Author.Tests.{leb-true, le-leb, ne_eqb}
 use Rattle.words.specs.Words.{address_of, subaddress_of, count_of, words_of, is_transmit, is_broadcast, is_mode}
-use Rattle.words.proofs.Truth.{and_both, passes, passed}
+use Rattle.words.proofs.Truth.{passes, passed}
+use Rattle.std.proofs.lemmas.Bool.{and_parts}
 use Rattle.records.specs.declared.forms.WordRecord.{WordRecord}
 use Rattle.monitor.specs.declared.entries.Commands.{Commands}
 use Rattle.monitor.specs.declared.entries.Commands.TheVariants as commands
@@ -57,7 +58,7 @@ either false s t = t
 
 digit_sign : (byte : ℕ) → is_digit byte ≡ true → is_sign byte ≡ true
 digit_sign byte d =
-    let ends = and_both (leb 48 byte) (leb byte 57) d in
+    let ends = and_parts (leb 48 byte) (leb byte 57) d in
     let low = leb-true 48 byte ends.0 in
     let high = leb-true byte 57 ends.1 in
     rw (le-leb 32 byte (omega arith), ne_eqb byte 127 (λ e. omega arith))
@@ -225,10 +226,10 @@ unfolding are_all
 one_end [] p zero e = refl
 one_end [] p (suc place) e = omega (arith, e)
 one_end (x ∷ text) p zero e =
-    let sign = (and_both (is_sign x) (is_plain text) p).0 in
-    let low = leb-true 32 x (and_both (leb 32 x) (not (eqb x 127)) sign).0 in
+    let sign = (and_parts (is_sign x) (is_plain text) p).0 in
+    let low = leb-true 32 x (and_parts (leb 32 x) (not (eqb x 127)) sign).0 in
     omega (arith, e, low)
-one_end (x ∷ text) p (suc place) e = ap suc (one_end text (and_both (is_sign x) (is_plain text) p).1 place e)
+one_end (x ∷ text) p (suc place) e = ap suc (one_end text (and_parts (is_sign x) (is_plain text) p).1 place e)
 
 pub one_line_end : OneLineEnd
 one_line_end = each_as one_end line_plain

@@ -8,11 +8,9 @@ ghost use Rattle.texts.specs.Entries.{address_text, direction_text, kind_text, f
 
 use lines::{Block, spell_byte, spell_decimal, spell_number, spell_text, spell_word};
 use monitor::{Commands, Gap, Message, Statuses};
-use records::WordRecord;
+use records::{BUS_A, WordRecord};
 use verdict::Verdict;
 use words::{CommandWord, Moment};
-
-const BUS_A: u8 = 0;
 
 // Spells a bus: any number is taken, and what is not A is B.
 fn spell_bus(block: &mut Block, at: usize, bus: u8) -> usize

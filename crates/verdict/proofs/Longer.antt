@@ -10,7 +10,7 @@ use lib.ListN.{length, drop}
 use borrow.Author.Tests.{leb-true, le-leb, ltb-true, ltb-false, lt-ltb, le-ltb}
 use Rattle.words.specs.Words.{on_clock, since_of, no_response_distance, spacing_most}
 use Rattle.std.specs.Prelude.{Option, Some, None, Result, Ok, Err, ⊤}
-use Rattle.words.proofs.Truth.{and_both}
+use Rattle.std.proofs.lemmas.Bool.{and_parts}
 use Rattle.words.specs.declared.refusals.Refusal.{Refusal}
 use Rattle.words.specs.declared.times.Moment.{Moment}
 use Rattle.records.specs.Records.{record_bytes, last_bus, read_of}
@@ -93,7 +93,7 @@ module _ (plan : Plan) (moment : Moment) (later : plan.until.0 ≤ moment.0) whe
 
   in_time_longer : (before t : ℕ) → (ltb before t && leb t plan.until.0) ≡ true → (ltb before t && leb t moment.0) ≡ true
   in_time_longer before t h =
-      let parts = and_both (ltb before t) (leb t plan.until.0) h in
+      let parts = and_parts (ltb before t) (leb t plan.until.0) h in
       rw parts.0 (le-leb t moment.0 (omega (arith, leb-true t plan.until.0 parts.1)))
 
   record_longer : (before : ℕ) (r : WordRecord) → record_checks plan before r ≡ Ok tt → record_checks (with_until plan moment) before r ≡ Ok tt
@@ -153,8 +153,8 @@ module _ (plan : Plan) (moment : Moment) (later : plan.until.0 ≤ moment.0) whe
 
       again : fits plan.until.0 ≡ true → fits moment.0 ≡ true
       again h =
-          let all = and_both (leb plan.bus last_bus && on_clock plan.last.0 && on_clock plan.until.0) (leb plan.last.0 plan.until.0) h in
-          let front = and_both (leb plan.bus last_bus && on_clock plan.last.0) (on_clock plan.until.0) all.0 in
+          let all = and_parts (leb plan.bus last_bus && on_clock plan.last.0 && on_clock plan.until.0) (leb plan.last.0 plan.until.0) h in
+          let front = and_parts (leb plan.bus last_bus && on_clock plan.last.0) (on_clock plan.until.0) all.0 in
           rw (front.0, on_clock_lem) (le-leb plan.last.0 moment.0 (omega (arith, leb-true plan.last.0 plan.until.0 all.1)))
 
       go : (possible fit : Bool) → fits plan.until.0 ≡ fit → (x y : Refusal)

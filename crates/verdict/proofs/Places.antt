@@ -9,7 +9,7 @@ use lib.ListN.{replicate}
 use Rattle.std.specs.Prelude.{slice_get, Some, None}
 use borrow.Author.Tests.{leb-true, eqb-false, not-true}
 use Rattle.words.specs.Words.{is_broadcast}
-use Rattle.words.proofs.Truth.{and_both}
+use Rattle.std.proofs.lemmas.Bool.{and_parts}
 use Rattle.verdict.specs.Plans.{status_for, sent_of, part_of, back_of, expected_of}
 use Rattle.verdict.specs.Verdicts.{sent_first, expected_at}
 use Rattle.verdict.specs.declared.plans.Plan.{Plan}
@@ -61,7 +61,7 @@ module _ (w : ℕ) where
 pub first_data : (plan : Plan) (place : ℕ) → (not (eqb place 0) && leb place (sent_first plan)) ≡ true → expected_at plan place ≡ Some Data
 unfolding sent_first expected_of back_of
 first_data plan place h =
-    let parts = and_both (not (eqb place 0)) (leb place (sent_first plan)) h in
+    let parts = and_parts (not (eqb place 0)) (leb place (sent_first plan)) h in
     go (eqb plan.commands 1) (is_broadcast plan.first.0) (eqb-false place 0 (not-true (eqb place 0) parts.0))
     (leb-true place (sent_first plan) parts.1)
   where

@@ -15,7 +15,7 @@ use Rattle.words.specs.declared.modes.Listing.{Listing}
 use Rattle.words.specs.declared.modes.ModeWord.{ModeWord}
 use Rattle.words.specs.declared.modes.ModeWord.TheVariants as modeword
 use Rattle.words.proofs.Counts.{words_most}
-use Rattle.words.proofs.Truth.{and_both, cond_most}
+use Rattle.words.proofs.Truth.{cond_most}
 use Rattle.records.specs.Files.{Walk, whole, stops}
 use Rattle.records.specs.declared.forms.WordRecord.{WordRecord}
 use Rattle.verdict.specs.Plans.{is_pair, is_possible, plan_checks, words_sent, sent_by, sent_of, part_of, back_of, expected_of}
@@ -91,7 +91,7 @@ expected_most plan n few =
 first_sends_none : (first second : ℕ) → is_pair first second ≡ true → sent_of first ≤ 0
 unfolding is_pair sent_of
 first_sends_none first second h =
-    let both = and_both (not (is_transmit first)) (not (is_mode first)) (and_parts _ _ (and_parts _ _ (and_parts _ _ (and_parts _ _ h).0).0).0).0 in
+    let both = and_parts (not (is_transmit first)) (not (is_mode first)) (and_parts _ _ (and_parts _ _ (and_parts _ _ (and_parts _ _ h).0).0).0).0 in
     rw (not-true (is_transmit first) both.0, not-true (is_mode first) both.1) (lit≤ tt)
 
 -- ---- how much is looked at
@@ -133,7 +133,7 @@ taken_possible plan ok = go (is_possible plan) _ _ ok
 
 possible_pair : (plan : Plan) → is_possible plan ≡ true → eqb plan.commands 1 ≡ false → is_pair plan.first.0 plan.second.0 ≡ true
 unfolding is_possible
-possible_pair plan possible two = (and_both (eqb plan.commands 2) _ (rw two at possible)).1
+possible_pair plan possible two = (and_parts (eqb plan.commands 2) _ (rw two at possible)).1
 
 -- of a plan that is not refused
 pub looked_most : (plan : Plan) → plan_checks plan ≡ Ok tt → (rs : List WordRecord) → looked_of plan rs ≤ 35

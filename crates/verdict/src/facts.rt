@@ -48,7 +48,7 @@ fn status_fact(address: u16, unjudged: bool, last: Moment, heard: WordRecord) ->
     if gap > GAP_MOST {
         return Some(Verdict::Late);
     }
-    if !words::is_valid(heard.sync, heard.faults, heard.word, heard.parity) {
+    if !heard.is_valid() {
         return Some(Verdict::NotValid);
     }
     if heard.sync == DATA_SYNC {
@@ -72,7 +72,7 @@ pub(crate) fn data_fact(last: Moment, heard: WordRecord) -> Option<Verdict>
         Spacing::Overlapping(_) => Some(Verdict::Overlapping),
         Spacing::Separated(_) => Some(Verdict::Separated),
         Spacing::BackToBack(_) => {
-            if !words::is_valid(heard.sync, heard.faults, heard.word, heard.parity) {
+            if !heard.is_valid() {
                 return Some(Verdict::NotValid);
             }
             if heard.sync == COMMAND_SYNC {

@@ -10,7 +10,7 @@ use borrow.Author.Tests.{eqb-true}
 use Rattle.words.specs.Words.{field_of, placed_of, address_of, kept_of, flags_of, has_no_other}
 use Rattle.words.specs.Theorems.{Gaps, FieldsBuilt, BuiltFields, StatusFieldsBuilt, StatusBuiltFields}
 use Rattle.words.specs.declared.statuses.Flag.TheVariants.{MessageError, ServiceRequest, BroadcastReceived, Busy, Subsystem, Terminal}
-use Rattle.words.proofs.Truth.{and_both}
+use Rattle.std.proofs.lemmas.Bool.{and_parts}
 
 pub gaps : Gaps
 gaps moment = (omega arith, omega arith, omega arith)
@@ -121,8 +121,8 @@ status_sum w r11 r10 r9 r8 r5 r4 r3 r2 r1 r0 a e i s v b y u c t h11 h10 h9 h8 h
 pub status_built_fields : StatusBuiltFields
 status_built_fields word h other =
     let flags_again : flags_of (flags_of word) ≡ flags_of word = ap flags_of (omega arith) ∙ (status_parts 0 word).flags_are in
-    let outer = and_both (eqb (field_of 9 1 word) 0 && eqb (field_of 5 3 word) 0) (eqb (field_of 1 1 word) 0) other in
-    let inner = and_both (eqb (field_of 9 1 word) 0) (eqb (field_of 5 3 word) 0) outer.0 in
+    let outer = and_parts (eqb (field_of 9 1 word) 0 && eqb (field_of 5 3 word) 0) (eqb (field_of 1 1 word) 0) other in
+    let inner = and_parts (eqb (field_of 9 1 word) 0) (eqb (field_of 5 3 word) 0) outer.0 in
     let none : (k j : ℕ) → eqb (field_of k j word) 0 ≡ true → field_of k j word * 2 ^ k ≡ 0 =
     λ k j e. ap (λ (x : ℕ). x * 2 ^ k) (eqb-true (field_of k j word) 0 e) ∙ zero-mul (2 ^ k) in
     rw (placed_field 11 5 word, flags_again)

@@ -11,7 +11,7 @@ use lib.Pow.{pow_pos, shr-shr}
 use borrow.Author.Tests.{eqb-true, eqb-false, eq-eqb, ne_eqb, ltb-true}
 use Rattle.words.specs.Words.{is_odd, parity_of, is_valid}
 use Rattle.words.specs.Theorems.{ParityOne, BitTurned, turned}
-use Rattle.words.proofs.Truth.{and_both}
+use Rattle.std.proofs.lemmas.Bool.{and_parts}
 
 -- ---- the parity bit
 
@@ -101,8 +101,8 @@ even_invalid sync faults word parity h = rw h (and-false ((eqb sync 0 || eqb syn
 pub bit_turned : BitTurned
 unfolding is_valid
 bit_turned sync faults word parity valid =
-    let outer = and_both ((eqb sync 0 || eqb sync 1) && eqb faults 0 && ltb parity 2) (is_odd word parity) valid in
-    let inner = and_both ((eqb sync 0 || eqb sync 1) && eqb faults 0) (ltb parity 2) outer.0 in
+    let outer = and_parts ((eqb sync 0 || eqb sync 1) && eqb faults 0 && ltb parity 2) (is_odd word parity) valid in
+    let inner = and_parts ((eqb sync 0 || eqb sync 1) && eqb faults 0) (ltb parity 2) outer.0 in
     let odd = odd_is word parity outer.1 in
     let below : parity < 2 = ltb-true parity 2 inner.1 in (
       λ place h. even_invalid sync faults (turned place word) parity (is_even_lem (turned place word) parity (omega (arith, ones_turned 16 place word h))),

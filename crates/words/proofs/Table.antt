@@ -15,7 +15,8 @@ use Rattle.words.specs.declared.modes.Listing.{Listing}
 use Rattle.words.specs.declared.modes.ModeWord.{ModeWord}
 use Rattle.words.specs.declared.modes.ModeWord.TheVariants.{Sent, Received}
 use Rattle.std.specs.Prelude.{Option, Some, None}
-use Rattle.words.proofs.Truth.{and_both, passes, passed}
+use Rattle.words.proofs.Truth.{passes, passed}
+use Rattle.std.proofs.lemmas.Bool.{and_parts}
 
 -- what the test says of a place is said of its T/R bit and its code
 pub at_pair : (test : ℕ → ℕ → Bool) → passes 64 (λ (i : ℕ). test (i / 32) (i % 32)) ≡ true → (t c : ℕ) → t < 2 → c < 32 → test t c ≡ true
@@ -90,7 +91,7 @@ unfolding right
 table_right t c ht hc =
     let l = found t c rows in
     let x = get_or letters (t * 32 + c) 0 in
-    let parts = and_both (eqb x (letter_of l)) (not (eqb (letter_of l) 0)) (at_pair right all_right t c ht hc) in
+    let parts = and_parts (eqb x (letter_of l)) (not (eqb (letter_of l) 0)) (at_pair right all_right t c ht hc) in
     ap read_as (eqb-true x (letter_of l) parts.0) ∙ letter_read l parts.1
 
 -- ---- which codes the table lists, and how many

@@ -1,17 +1,13 @@
 -- Laws of tests. Assumes nothing.
-use mathlib.Core.Path.{◌≡◌, refl, sym, subst}
+use Rattle.std.proofs.lemmas.Bool.{and_parts}
+use mathlib.Core.Path.{◌≡◌, refl, subst}
 use Prim.Native.Nat.{ℕ, zero, suc, ◌≤◌, ◌<◌}
 use native.Mathlib.Nat.{not-suc-le-zero}
 use native.Mathlib.Omega.{arith}
 use native.Mathlib.Decide.{dec_le}
 use mathlib.Core.Logic.{dite}
-use mathlib.Core.Bool.{Bool, true, false, not, cond, ◌&&◌, true≢false}
+use mathlib.Core.Bool.{Bool, true, false, not, cond, ◌&&◌}
 use mir.Val.{bool_byte}
-
--- a test of two parts that passes passes at both
-pub and_both : (a b : Bool) → (a && b) ≡ true → (a ≡ true) × (b ≡ true)
-and_both true b h = (refl, h)
-and_both false b h = absurd (true≢false (sym h))
 
 -- a choice is at most what both sides are
 pub cond_most : (n : ℕ) (b : Bool) (x y : ℕ) → x ≤ n → y ≤ n → cond b x y ≤ n
@@ -37,7 +33,7 @@ pub passed : (n : ℕ) (test : ℕ → Bool) → passes n test ≡ true → (i :
 unfolding passes
 passed zero test all i h = absurd (not-suc-le-zero h)
 passed (suc n) test all i h =
-    let parts = and_both (test n) (passes n test) all in
+    let parts = and_parts (test n) (passes n test) all in
     dite (dec_le (suc i) n)
     (λ below. passed n test parts.1 i below)
     (λ last. subst (λ (m : ℕ). test m ≡ true) {x = n} {y = i} (omega arith) parts.0)

@@ -19,7 +19,7 @@ pub struct Listing {
 }
 
 // The table by T/R bit and code: T/R 0 with the codes 0 to 15 and 16 to 31, then T/R 1. '.' is reserved; 'n' and 'b' have no data word,
-// 's' has one sent, 'r' one received; 'b' and 'r' may be broadcast.
+// 's' has one sent, 'r' one received; 'b' and 'r' may be broadcast. Letters, so that it can be held against 01's table.
 const ROWS: [u8; 64] = *b"\
 ................\
 .r..rr..........\
@@ -41,7 +41,8 @@ pub fn look_up(command: CommandWord) -> Option<Listing>
     Some(Listing { broadcast, word })
 }
 
-// Says whether the table allows the mode command: it is listed and, where it goes to 31, listed for broadcast. So are 20 and 21.
+// Says whether the table allows the mode command: it is listed and, where it goes to 31, listed for broadcast. So are 20 and 21. A match, since
+// `is_some_and` promises an equivalence and no equation.
 // Tables: none. Refusals: none.
 pub fn is_allowed(command: CommandWord) -> bool
     ensures answer { result ≡ is_allowed command.0 }

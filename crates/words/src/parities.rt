@@ -23,7 +23,7 @@ pub fn parity_bit(word: u16) -> u8
     u8::from(!is_odd(word, 0))
 }
 
-// Says whether a word is valid; any number may be handed over.
+// Says whether a word is valid; any number may be handed over, so none is an enum.
 // Tables: none. Refusals: none.
 pub fn is_valid(sync: u8, faults: u8, word: u16, parity: u8) -> bool
     ensures answer { result ≡ is_valid sync faults word parity }

@@ -21,7 +21,7 @@ pub enum Flag {
 
 impl Flag {
     // Gives the flag's bit: "message error 0400, .. service request 0100, .. broadcast received 0010, busy 0008, subsystem flag 0004, ..
-    // terminal flag 0001 (hexadecimal)".
+    // terminal flag 0001 (hexadecimal)". They are no numbers in a row, so each stands in its arm.
     // Tables: none. Refusals: none.
     pub fn bit(self) -> u16
         ensures bit { result ≡ bit_of self }
@@ -50,7 +50,7 @@ impl StatusWord {
         StatusWord(placed(address, 11, 5) | among.flags())
     }
 
-    // Gives the address field, 0 to 31.
+    // Gives the address field, 0 to 31. The command word has one too: C names both, and a trait over two such lines would be longer.
     // Tables: none. Refusals: none.
     pub fn address(self) -> u16
         ensures field { result ≡ address_of self.0 }

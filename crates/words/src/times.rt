@@ -29,7 +29,7 @@ impl Ticks {
     pub const NO_RESPONSE_DISTANCE: Ticks = Ticks(320);
 }
 
-// Gives the constants above. Nothing calls it: its promise holds each to the definition that contracts cite.
+// Gives the constants above. Nothing calls it: its promise holds each to the definition that contracts cite, which a constant can not.
 fn list_distances() -> [u64; 7]
     ensures all { result ≡ word_ticks ∷ parity_middle ∷ back_to_back_gap ∷ spacing_least ∷ spacing_most ∷ due_distance ∷ no_response_distance ∷ [] }
 {
