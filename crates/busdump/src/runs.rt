@@ -3,11 +3,11 @@
 use crate::complaints::{PROGRAM, explain_beginning, explain_record};
 use crate::dumps::Dump;
 use crate::options::Options;
-use records::{BUS_A, BUS_B};
 use crate::outputs::put_title;
 use crate::readers::{Reader, Unbegun, open};
 use crate::tallies::{Tally, byte_of};
 use lines::{Block, NAME_BYTES, Sink, Target, between, complain, is_dash, open_named, remark};
+use records::{BUS_A, BUS_B};
 use status::{Status, ask, count_arguments};
 use std::fs::File;
 use std::io::Seek;
