@@ -71,7 +71,7 @@ impl<'a> Dump<'a> {
     // Gives the refusal at which the first reading ended, if it did not end with the file.
     pub(crate) fn refusal(&self) -> Option<Refusal> {
         match self.first.side.stop {
-            Stop::Reading | Stop::Ended => None,
+            Stop::Reading | Stop::Ended | Stop::Unnamed(_) => None,
             Stop::Refused(refusal) => Some(refusal),
         }
     }

@@ -70,6 +70,7 @@ gives s us p h = go s.found s.stop refl h
     go None stop.Reading q h = absurd (cc)
     go None stop.Ended q h = absurd (cc)
     go None (stop.Refused n) q h = absurd (cc)
+    go None (stop.Unnamed n) q h = absurd (cc)
 
 merged_first : (e : Logged) (es fs : List Logged) → ((f : Logged) (rest : List Logged) → fs ≡ f ∷ rest → ltb e.place f.place ≡ true) → merged (e ∷ es) fs ≡ e ∷ merged es fs
 unfolding merged
@@ -96,7 +97,7 @@ both_ends x y both_over = (refl, refl)
 -- ---- any course
 
 abbrev Ends : Side → Told → Type 0
-Ends s t = (s.stop ≡ stop_of t.refusal) × (s.walk.records ≡ t.records)
+Ends s t = (s.stop ≡ t.stop) × (s.walk.records ≡ t.records)
 
 -- what a course comes to, from what the sides are to tell
 abbrev Says : List Logged → Side → Side → Told → Told → Type 0
@@ -183,13 +184,13 @@ records_after_lem (r ∷ rs) n few =
 
 from_start : (bus : ℕ) (bytes : List ℕ) → length bytes < 2 ^ 64
     → told (side_start bus) bytes
-    ≡ record { entries = entries_on bus (front_of bytes).taken; refusal = (front_of bytes).refusal; records = length (front_of bytes).taken }
+    ≡ record { entries = entries_on bus (front_of bytes).taken; stop = stop_of (front_of bytes).refusal; records = length (front_of bytes).taken }
 unfolding told side_start front_of
 from_start bus bytes few =
     let taken = (front_of bytes).taken in
     let most : length (front_of bytes).taken < 2 ^ 64 = omega (arith, front_few (length bytes) 0 bytes, few) in
     rw (walk_entries bus taken most (front_each (λ (r : WordRecord). r.time.0 < 2 ^ 64) (λ r range. omega (arith, in_range_time last_bus r range)) (length bytes) 0 bytes), records_after_lem taken 0 (omega (arith, most)))
-    (ap (λ (k : ℕ). record { entries = entries_on bus taken; refusal = (front_of bytes).refusal; records = k }) (omega arith))
+    (ap (λ (k : ℕ). record { entries = entries_on bus taken; stop = stop_of (front_of bytes).refusal; records = k }) (omega arith))
 
 pub log_of_the_file : LogOfTheFile
 unfolding file_log open_of log_of
@@ -197,4 +198,4 @@ log_of_the_file bytes few es a b course =
     let says =
     subst (λ (t : Told). Says es a b t (told (side_start 1) bytes)) (from_start 0 bytes few)
     (course_says course) in
-    subst (λ (t : Told). Says es a b (record { entries = entries_on 0 (front_of bytes).taken; refusal = (front_of bytes).refusal; records = length (front_of bytes).taken }) t) (from_start 1 bytes few) says
+    subst (λ (t : Told). Says es a b (record { entries = entries_on 0 (front_of bytes).taken; stop = stop_of (front_of bytes).refusal; records = length (front_of bytes).taken }) t) (from_start 1 bytes few) says

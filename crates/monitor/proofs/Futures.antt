@@ -111,7 +111,7 @@ front_few (suc n) before bytes = go (eqb (length bytes) 0) (λ time. front_few n
 
 pub record Told : Type 0 where
   pub entries : List Logged
-  pub refusal : Option Refusal
+  pub stop : Stop
   pub records : ℕ
 
 abbrev pub records_after : ℕ → List WordRecord → ℕ
@@ -120,12 +120,13 @@ records_after n (r ∷ rs) = records_after (next64 n) rs
 
 -- of a walk that reads on, where the records up to the end are these
 abbrev told_over : Option Logged → Walk → Front → Told
-told_over f w front = record { entries = given f ++ walk_over w front.taken; refusal = front.refusal; records = records_after w.records front.taken }
+told_over f w front = record { entries = given f ++ walk_over w front.taken; stop = stop_of front.refusal; records = records_after w.records front.taken }
 
 abbrev told_by : Stop → Option Logged → Walk → List ℕ → Told
 told_by stop.Reading f w bytes = told_over f w (front_from (length bytes) w.clock.0 bytes)
-told_by stop.Ended f w bytes = record { entries = given f; refusal = None; records = w.records }
-told_by (stop.Refused n) f w bytes = record { entries = given f; refusal = Some n; records = w.records }
+told_by stop.Ended f w bytes = record { entries = given f; stop = stop.Ended; records = w.records }
+told_by (stop.Refused n) f w bytes = record { entries = given f; stop = stop.Refused n; records = w.records }
+told_by (stop.Unnamed n) f w bytes = record { entries = given f; stop = stop.Unnamed n; records = w.records }
 
 unfoldable pub told : Side → List ℕ → Told
 told s bytes = told_by s.stop s.found s.walk bytes
@@ -198,7 +199,7 @@ told_with w bytes n enough (Ok r) = go (ltb r.time.0 w.clock.0)
         (λ (k : ℕ).
         record {
           entries = given (step_by w r).found ++ walk_over (step_by w r).walk (front_from n r.time.0 bytes).taken;
-          refusal = (front_from n r.time.0 bytes).refusal;
+          stop = stop_of (front_from n r.time.0 bytes).refusal;
           records = records_after k (front_from n r.time.0 bytes).taken;
         })
         (steps w r).count
@@ -210,6 +211,7 @@ wants_with (Some e) x h = absurd (true≢false (sym h))
 wants_with None stop.Reading h = (refl, refl)
 wants_with None stop.Ended h = absurd (true≢false (sym h))
 wants_with None (stop.Refused n) h = absurd (true≢false (sym h))
+wants_with None (stop.Unnamed n) h = absurd (true≢false (sym h))
 
 pub told_wants : (s : Side) (bytes : List ℕ) → wants_more s ≡ true → told s bytes ≡ told_over None s.walk (front_from (length bytes) s.walk.clock.0 bytes)
 unfolding wants_more ready_of
@@ -272,7 +274,7 @@ told_fed s chunk rest us e = told_chunk (length chunk) s chunk rest us 0 e
 
 -- the entry that waits is the first of those to come
 abbrev pub with_first : Logged → Told → Told
-with_first e t = record { entries = e ∷ t.entries; refusal = t.refusal; records = t.records }
+with_first e t = record { entries = e ∷ t.entries; stop = t.stop; records = t.records }
 
 pub told_given : (s : Side) (us : List ℕ) (e : Logged) → s.found ≡ Some e → told s us ≡ with_first e (told (given_of s) us)
 unfolding told given_of
@@ -282,16 +284,18 @@ told_given s us e h = ap (λ (f : Option Logged). told_by s.stop f s.walk us) h 
     go stop.Reading = refl
     go stop.Ended = refl
     go (stop.Refused n) = refl
+    go (stop.Unnamed n) = refl
 
 -- a side that is over
 pub told_over_lem : (s : Side) (us : List ℕ) → ready_of s ≡ ready.Over
-    → ((told s us).entries ≡ []) × (s.stop ≡ stop_of (told s us).refusal) × (s.walk.records ≡ (told s us).records)
+    → ((told s us).entries ≡ []) × (s.stop ≡ (told s us).stop) × (s.walk.records ≡ (told s us).records)
 unfolding told ready_of
 told_over_lem s us h = go s.found s.stop h
   where
     go : (f : Option Logged) (x : Stop) → ready_with f x ≡ ready.Over
-        → ((told_by x f s.walk us).entries ≡ []) × (x ≡ stop_of (told_by x f s.walk us).refusal) × (s.walk.records ≡ (told_by x f s.walk us).records)
+        → ((told_by x f s.walk us).entries ≡ []) × (x ≡ (told_by x f s.walk us).stop) × (s.walk.records ≡ (told_by x f s.walk us).records)
     go (Some e) x h = absurd (cc)
     go None stop.Reading h = absurd (cc)
     go None stop.Ended h = (refl, refl, refl)
     go None (stop.Refused n) h = (refl, refl, refl)
+    go None (stop.Unnamed n) h = (refl, refl, refl)

@@ -31,11 +31,14 @@ left_most stop.Ended None bytes = omega arith
 left_most stop.Ended (Some e) bytes = omega arith
 left_most (stop.Refused n) None bytes = omega arith
 left_most (stop.Refused n) (Some e) bytes = omega arith
+left_most (stop.Unnamed n) None bytes = omega arith
+left_most (stop.Unnamed n) (Some e) bytes = omega arith
 
 wanting : (f : Option Logged) (x : Stop) (bytes : ℕ) → is_feed (ready_with f x) ≡ true → left_with x f bytes ≡ bytes + 2
 wanting None stop.Reading bytes h = refl
 wanting None stop.Ended bytes h = absurd (cc)
 wanting None (stop.Refused n) bytes h = absurd (cc)
+wanting None (stop.Unnamed n) bytes h = absurd (cc)
 wanting (Some e) x bytes h = absurd (cc)
 
 left_wants : (s : Side) (us : List ℕ) → wants_more s ≡ true → left_of s us ≡ length us + 2
@@ -109,12 +112,14 @@ less_given s us e h = subst (λ (f : Option Logged). left_with s.stop None (leng
     go stop.Reading = omega arith
     go stop.Ended = omega arith
     go (stop.Refused n) = omega arith
+    go (stop.Unnamed n) = omega arith
 
 found_with_lem : (f : Option Logged) (x : Stop) (p : ℕ) → ready_with f x ≡ ready.Give p → (e : Logged) × (f ≡ Some e)
 found_with_lem (Some e) x p h = (e, refl)
 found_with_lem None stop.Reading p h = absurd (cc)
 found_with_lem None stop.Ended p h = absurd (cc)
 found_with_lem None (stop.Refused n) p h = absurd (cc)
+found_with_lem None (stop.Unnamed n) p h = absurd (cc)
 
 gives : (s : Side) (us : List ℕ) (p : ℕ) → ready_of s ≡ ready.Give p → Gives s us
 unfolding ready_of

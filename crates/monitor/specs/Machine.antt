@@ -297,6 +297,7 @@ ready_with (Some e) s = ready.Give e.place
 ready_with None stop.Reading = ready.Feed
 ready_with None stop.Ended = ready.Over
 ready_with None (stop.Refused n) = ready.Over
+ready_with None (stop.Unnamed n) = ready.Over
 
 unfoldable pub ready_of : Side → Ready
 ready_of s = ready_with s.found s.stop

@@ -82,6 +82,8 @@ left_with stop.Ended None bytes = 0
 left_with stop.Ended (Some e) bytes = 1
 left_with (stop.Refused n) None bytes = 0
 left_with (stop.Refused n) (Some e) bytes = 1
+left_with (stop.Unnamed n) None bytes = 0
+left_with (stop.Unnamed n) (Some e) bytes = 1
 
 abbrev pub left_of : Side → List ℕ → ℕ
 left_of s us = left_with s.stop s.found (length us)

@@ -53,7 +53,7 @@ impl Side {
         match (self.found, self.stop) {
             (Some(logged), _) => Ready::Give(logged.place),
             (None, Stop::Reading) => Ready::Feed,
-            (None, Stop::Ended | Stop::Refused(_)) => Ready::Over,
+            (None, Stop::Ended | Stop::Refused(_) | Stop::Unnamed(_)) => Ready::Over,
         }
     }
 

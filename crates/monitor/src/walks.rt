@@ -27,12 +27,14 @@ pub struct Walk {
     pub standing: Option<Standing>,
 }
 
-// How far a walk is: it reads on, or it has come to the end of the file or to a record that is refused.
+// How far a walk is: it reads on, or it has come to the end of the file or to a record that is refused. A walk here ends in no other way; whoever hands a side
+// in may say that it ended with a number that no refusal has.
 #[derive(Clone, Copy, Debug, PartialEq, Eq)]
 pub enum Stop {
     Reading,
     Ended,
     Refused(Refusal),
+    Unnamed(u8),
 }
 
 // One bus's side of the log: its walk, the entry that waits to be given, where one closed, and how far it is.

@@ -1,12 +1,12 @@
 -- The texts that a test or a number chooses, by what the code has at that place. Assumes nothing.
 use mathlib.Core.Path.{◌≡◌, refl, sym, ap, ◌∙◌}
-use mathlib.Core.Bool.{Bool, true, false, cond, not}
+use mathlib.Core.Bool.{Bool, true, false, cond, not, true≢false}
 use Prim.Native.Nat.{ℕ, ◌+◌, ◌-◌, ◌≤◌, ◌<◌}
 use native.Mathlib.Omega.{arith}
 use mathlib.Core.List.{List, [], ◌∷◌, ◌++◌}
 use lib.Dec.{eqb}
 use lib.ListN.{length, take, drop, take-append-drop, get_or}
-use borrow.Author.Tests.{eq-eqb, ne_eqb, leb-true, le-leb}
+use borrow.Author.Tests.{eq-eqb, ne_eqb, leb-true, le-leb, not-true}
 use Rattle.words.proofs.Truth.{passes, passed}
 use Rattle.words.specs.Words.{address_of, subaddress_of, count_of, words_of, is_transmit, is_broadcast, is_mode, parity_of}
 use Rattle.lines.specs.Sinks.{block_bytes, fits_behind, place_after, put_at, block_after, word_text}
@@ -41,33 +41,64 @@ verdicts =
     verdict.Good ∷ verdict.NoResponse ∷ verdict.Waiting ∷ verdict.Early ∷ verdict.Late ∷ verdict.NotValid ∷ verdict.WrongSync ∷ verdict.WrongAddress
     ∷ verdict.MessageError ∷ verdict.Busy ∷ verdict.Separated ∷ verdict.LeftOver ∷ verdict.Overlapping ∷ []
 
--- each has a number of its own, below 13
-record Numbered (v : Verdict) : Type 0 where
+-- what is said of a verdict that has a name: the name, and the number, below 13 and of it alone
+record Named (v : Verdict) : Type 0 where
+  name : verdict_name v ≡ get_or verdict_names (number_of v) []
   back : get_or verdicts (number_of v) verdict.Good ≡ v
   below : number_of v < 13
 
-numbered : (v : Verdict) → Numbered v
-numbered verdict.Good = record { back = refl; below = omega arith }
-numbered verdict.NoResponse = record { back = refl; below = omega arith }
-numbered verdict.Waiting = record { back = refl; below = omega arith }
-numbered verdict.Early = record { back = refl; below = omega arith }
-numbered verdict.Late = record { back = refl; below = omega arith }
-numbered verdict.NotValid = record { back = refl; below = omega arith }
-numbered verdict.WrongSync = record { back = refl; below = omega arith }
-numbered verdict.WrongAddress = record { back = refl; below = omega arith }
-numbered verdict.MessageError = record { back = refl; below = omega arith }
-numbered verdict.Busy = record { back = refl; below = omega arith }
-numbered verdict.Separated = record { back = refl; below = omega arith }
-numbered verdict.LeftOver = record { back = refl; below = omega arith }
-numbered verdict.Overlapping = record { back = refl; below = omega arith }
+-- what is said of any verdict: it has a name, or it is one without
+data Naming : Verdict → Type 0 where
+  named : {v : Verdict} → Named v → Naming v
+  without : {n : ℕ} → Naming (verdict.Unnamed n)
 
-pub same_verdict : (v w : Verdict) → number_of v ≡ number_of w → v ≡ w
-same_verdict v w e = sym (numbered v).back ∙ ap (λ (n : ℕ). get_or verdicts n verdict.Good) e ∙ (numbered w).back
-
--- what a test says of each name
-pub each_name : (test : List ℕ → Bool) → passes 13 (λ (n : ℕ). test (get_or verdict_names n [])) ≡ true → (v : Verdict) → test (verdict_name v) ≡ true
+naming : (v : Verdict) → Naming v
 unfolding verdict_name
-each_name test all v = passed 13 (λ (n : ℕ). test (get_or verdict_names n [])) all (number_of v) (numbered v).below
+naming verdict.Good = named (record { name = refl; back = refl; below = omega arith })
+naming verdict.NoResponse = named (record { name = refl; back = refl; below = omega arith })
+naming verdict.Waiting = named (record { name = refl; back = refl; below = omega arith })
+naming verdict.Early = named (record { name = refl; back = refl; below = omega arith })
+naming verdict.Late = named (record { name = refl; back = refl; below = omega arith })
+naming verdict.NotValid = named (record { name = refl; back = refl; below = omega arith })
+naming verdict.WrongSync = named (record { name = refl; back = refl; below = omega arith })
+naming verdict.WrongAddress = named (record { name = refl; back = refl; below = omega arith })
+naming verdict.MessageError = named (record { name = refl; back = refl; below = omega arith })
+naming verdict.Busy = named (record { name = refl; back = refl; below = omega arith })
+naming verdict.Separated = named (record { name = refl; back = refl; below = omega arith })
+naming verdict.LeftOver = named (record { name = refl; back = refl; below = omega arith })
+naming verdict.Overlapping = named (record { name = refl; back = refl; below = omega arith })
+naming (verdict.Unnamed n) = without
+
+-- what a test says of each name, and of what has none
+pub each_name : (test : List ℕ → Bool) → passes 13 (λ (n : ℕ). test (get_or verdict_names n [])) ≡ true → test (text_of " unnamed") ≡ true
+    → (v : Verdict) → test (verdict_name v) ≡ true
+unfolding verdict_name
+each_name test all other v = go v (naming v)
+  where
+    go : (v : Verdict) → Naming v → test (verdict_name v) ≡ true
+    go v (named n) = rw n.name (passed 13 (λ (n : ℕ). test (get_or verdict_names n [])) all (number_of v) n.below)
+    go v without = other
+
+-- the second letter of what stands for a name is a `u` where there is none alone
+abbrev is_unnamed : List ℕ → Bool
+is_unnamed text = eqb (get_or text 1 0) 117
+
+name_apart : (v : Verdict) → Named v → (n : ℕ) (x y : List ℕ) → verdict_name v ++ x ≡ verdict_name (verdict.Unnamed n) ++ y → ⊥
+unfolding verdict_name passes
+name_apart v has n x y e =
+    let other : not (is_unnamed (verdict_name v ++ x)) ≡ true =
+    rw has.name (passed 13 (λ (k : ℕ). not (is_unnamed (get_or verdict_names k [] ++ x))) refl (number_of v) has.below) in
+    true≢false (sym (ap is_unnamed e) ∙ not-true (is_unnamed (verdict_name v ++ x)) other)
+
+-- the number and the name tell the verdict
+pub same_verdict : (v w : Verdict) (x y : List ℕ) → number_of v ≡ number_of w → verdict_name v ++ x ≡ verdict_name w ++ y → v ≡ w
+same_verdict v w x y e names = go v w (naming v) (naming w) e names
+  where
+    go : (v w : Verdict) → Naming v → Naming w → number_of v ≡ number_of w → verdict_name v ++ x ≡ verdict_name w ++ y → v ≡ w
+    go v w (named a) (named b) e names = sym a.back ∙ ap (λ (n : ℕ). get_or verdicts n verdict.Good) e ∙ b.back
+    go v w (named a) without e names = absurd (name_apart v a _ x y names)
+    go v w without (named b) e names = absurd (name_apart w b _ y x (sym names))
+    go v w without without e names = ap verdict.Unnamed e
 
 module _ (command : ℕ) where
   pub address_all : is_broadcast command ≡ true → text_of "all" ≡ address_text command

@@ -109,8 +109,8 @@ name_signs : (v : Verdict) → Signs 12 (verdict_name v)
 unfolding passes are_all
 name_signs v =
     record {
-      plain = each_name is_plain refl v;
-      short = leb-true (length (verdict_name v)) 12 (each_name (λ (text : List ℕ). leb (length text) 12) refl v);
+      plain = each_name is_plain refl refl v;
+      short = leb-true (length (verdict_name v)) 12 (each_name (λ (text : List ℕ). leb (length text) 12) refl refl v);
     }
 
 outcome_signs : (o : Option Verdict) → Signs 41 (outcome_text o)

@@ -221,7 +221,7 @@ gap_tells = record { tell = by }
 name_apart : (v : Verdict) (x : List ℕ) → Apart (verdict_name v ++ x)
 unfolding passes
 name_apart v x =
-    begins_apart (verdict_name v) x (eqb-true (get_or (verdict_name v) 0 0) 32 (each_name (λ (text : List ℕ). eqb (get_or text 0 0) 32) refl v))
+    begins_apart (verdict_name v) x (eqb-true (get_or (verdict_name v) 0 0) 32 (each_name (λ (text : List ℕ). eqb (get_or text 0 0) 32) refl refl v))
 
 outcome_tells : Tells OutcomeFits Apart outcome_text
 outcome_tells = record { tell = by }
@@ -231,7 +231,7 @@ outcome_tells = record { tell = by }
     by (Some v) (Some w) x y p q s t e =
         let same = number.tell (number_of v) (number_of w) (verdict_name v ++ x) (verdict_name w ++ y) p q (name_apart v x) (name_apart w y)
         (inner (decimal_text (number_of v)) (verdict_name v) x (decimal_text (number_of w)) (verdict_name w) y (ap (drop 9) e)) in
-        let one : v ≡ w = same_verdict v w same.0 in
+        let one : v ≡ w = same_verdict v w x y same.0 same.1 in
         (ap Some one, append_cancel_left (verdict_name v) x y (same.1 ∙ ap (λ (u : Verdict). verdict_name u ++ y) (sym one)))
     by None (Some w) x y p q s t e =
         no_number (number_of w) (text_of "- none" ++ x) (verdict_name w ++ y) refl (ap (drop 9) e ∙ append_assoc (decimal_text (number_of w)) (verdict_name w) y)

@@ -11,6 +11,7 @@ use Rattle.monitor.specs.declared.entries.Gap.{Gap}
 use Rattle.monitor.specs.declared.entries.Gap.TheVariants as gap
 use Rattle.verdict.specs.Numbers.{number_of}
 use Rattle.verdict.specs.declared.verdicts.Verdict.{Verdict}
+use Rattle.verdict.specs.declared.verdicts.Verdict.TheVariants as verdict
 use Rattle.monitor.specs.declared.entries.Message.{Message}
 use Rattle.monitor.specs.declared.entries.Entry.{Entry}
 use Rattle.monitor.specs.declared.entries.Entry.TheVariants as entry
@@ -53,8 +54,10 @@ verdict_names =
     text_of " good" ∷ text_of " no-response" ∷ text_of " waiting" ∷ text_of " early" ∷ text_of " late" ∷ text_of " invalid" ∷ text_of " sync" ∷ text_of " address"
     ∷ text_of " error" ∷ text_of " busy" ∷ text_of " spacing" ∷ text_of " left-over" ∷ text_of " overlap" ∷ []
 
+-- a number to which no document gives a verdict has none of these
 unfoldable pub verdict_name : Verdict → List ℕ
-verdict_name verdict = get_or verdict_names (number_of verdict) []
+verdict_name (verdict.Unnamed number) = text_of " unnamed"
+verdict_name named = get_or verdict_names (number_of named) []
 
 -- "and the verdict"; "`- none` where the commands are an impossible plan, .."
 abbrev pub outcome_text : Option Verdict → List ℕ

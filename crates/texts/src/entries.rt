@@ -114,6 +114,7 @@ fn spell_name(block: &mut Block, at: usize, verdict: Verdict) -> usize
         Verdict::Separated => spell_text(block, at, b" spacing"),
         Verdict::LeftOver => spell_text(block, at, b" left-over"),
         Verdict::Overlapping => spell_text(block, at, b" overlap"),
+        Verdict::Unnamed(_) => spell_text(block, at, b" unnamed"),
     }
 }
 

@@ -22,7 +22,7 @@ pub struct Wanted {
 fn is_good(outcome: Option<Verdict>) -> bool
     ensures answer { result ≡ is_good outcome }
 {
-    matches!(outcome, Some(Verdict::Good))
+    outcome.is_some_and(|verdict| verdict.number() == 0)
 }
 
 impl Wanted {

@@ -11,6 +11,8 @@ use Rattle.words.specs.Words.{is_broadcast, is_transmit, is_mode}
 use Rattle.words.specs.Modes.{listing_of}
 use Rattle.std.specs.Prelude.{Option, Some, None, Result, Ok, Err, ⊤}
 use Rattle.words.specs.declared.refusals.Refusal.{Refusal}
+use Rattle.words.specs.declared.times.Spacing.{Spacing}
+use Rattle.words.specs.declared.times.Spacing.TheVariants.{Overlapping, BackToBack, Separated}
 use Rattle.words.specs.declared.modes.Listing.{Listing}
 use Rattle.words.specs.declared.modes.ModeWord.{ModeWord}
 use Rattle.words.specs.declared.modes.ModeWord.TheVariants as modeword
@@ -19,39 +21,66 @@ use Rattle.words.proofs.Truth.{cond_most}
 use Rattle.records.specs.Files.{Walk, whole, stops}
 use Rattle.records.specs.declared.forms.WordRecord.{WordRecord}
 use Rattle.verdict.specs.Plans.{is_pair, is_possible, plan_checks, words_sent, sent_by, sent_of, part_of, back_of, expected_of}
-use Rattle.verdict.specs.Numbers.{last_verdict, number_of}
-use Rattle.verdict.specs.Facts.{fact_of}
-use Rattle.verdict.specs.Verdicts.{found_or, finding_over, finding_of, verdict_of, looked_of, decide}
+use Rattle.verdict.specs.Numbers.{last_verdict, number_of, fact_number}
+use Rattle.verdict.specs.Facts.{flag_fact, status_fact, spacing_fact, data_fact, fact_of, end_of}
+use Rattle.verdict.specs.Verdicts.{found_or, finding_over, finding_of, looked_of, decide}
 use Rattle.verdict.specs.Theorems.{VerdictRange, LookedBound}
 use Rattle.verdict.specs.declared.judges.Finding.{Finding}
 use Rattle.verdict.specs.declared.verdicts.Verdict.{Verdict}
-use Rattle.verdict.specs.declared.verdicts.Verdict.TheVariants as verdict
 use Rattle.verdict.specs.declared.plans.Plan.{Plan}
 use Rattle.verdict.specs.declared.plans.Expected.{Expected}
-use Rattle.verdict.specs.declared.plans.Expected.TheVariants.{Data}
+use Rattle.verdict.specs.declared.plans.Expected.TheVariants.{Status, Data}
 use Rattle.verdict.proofs.Findings.{looked_over, given_taken}
 use Rattle.std.proofs.lemmas.Bool.{cond_both, and_parts}
 
 -- ---- the verdict
 
--- of each
-number_range : (v : Verdict) → number_of v ≤ last_verdict
-number_range verdict.Good = lit≤ tt
-number_range verdict.NoResponse = lit≤ tt
-number_range verdict.Waiting = lit≤ tt
-number_range verdict.Early = lit≤ tt
-number_range verdict.Late = lit≤ tt
-number_range verdict.NotValid = lit≤ tt
-number_range verdict.WrongSync = lit≤ tt
-number_range verdict.WrongAddress = lit≤ tt
-number_range verdict.MessageError = lit≤ tt
-number_range verdict.Busy = lit≤ tt
-number_range verdict.Separated = lit≤ tt
-number_range verdict.LeftOver = lit≤ tt
-number_range verdict.Overlapping = lit≤ tt
+-- of a test, of what it chooses
+fact_most : (b : Bool) (x y : Option Verdict) → fact_number x ≤ last_verdict → fact_number y ≤ last_verdict → fact_number (cond b x y) ≤ last_verdict
+fact_most true x y p q = p
+fact_most false x y p q = q
+
+end_most : (b : Bool) (x y : Verdict) → number_of x ≤ last_verdict → number_of y ≤ last_verdict → number_of (cond b x y) ≤ last_verdict
+end_most true x y p q = p
+end_most false x y p q = q
+
+-- of a spacing, and what comes then
+spacing_range : (s : Spacing) (next : Option Verdict) → fact_number next ≤ last_verdict → fact_number (spacing_fact s next) ≤ last_verdict
+spacing_range (Overlapping distance) next h = lit≤ tt
+spacing_range (BackToBack distance) next h = h
+spacing_range (Separated distance) next h = lit≤ tt
+
+-- of each fact
+fact_range : (e : Option Expected) (last : ℕ) (r : WordRecord) → fact_number (fact_of e last r) ≤ last_verdict
+unfolding fact_of status_fact flag_fact data_fact
+fact_range (Some (Status address unjudged)) last r = search (fact_most, lit≤) depth 12
+fact_range (Some Data) last r = search (spacing_range, fact_most, lit≤) depth 6
+fact_range None last r = lit≤ tt
+
+-- of the end
+end_range : (e : Option Expected) (last until : ℕ) → number_of (end_of e last until) ≤ last_verdict
+unfolding end_of
+end_range (Some (Status address unjudged)) last until = search (end_most, lit≤)
+end_range (Some Data) last until = search (end_most, lit≤)
+end_range None last until = search (end_most, lit≤)
+
+-- of a record and those behind it
+found_range : (shown : Option Verdict) (rest : Finding) → fact_number shown ≤ last_verdict → number_of rest.verdict ≤ last_verdict
+    → number_of (found_or shown rest).verdict ≤ last_verdict
+found_range None rest shown_most rest_most = rest_most
+found_range (Some fact) rest shown_most rest_most = shown_most
+
+over_range : (es : List Expected) (last until : ℕ) (rs : List WordRecord) → number_of (finding_over es last until rs).verdict ≤ last_verdict
+unfolding finding_over
+over_range [] last until [] = end_range None last until
+over_range [] last until (r ∷ rs) = lit≤ tt
+over_range (e ∷ es) last until [] = end_range (Some e) last until
+over_range (e ∷ es) last until (r ∷ rs) =
+    found_range (fact_of (Some e) last r) (finding_over es r.time.0 until rs) (fact_range (Some e) last r) (over_range es r.time.0 until rs)
 
 pub verdict_range : VerdictRange
-verdict_range plan rs = number_range (verdict_of plan rs)
+unfolding finding_of
+verdict_range plan rs = over_range (expected_of plan) plan.last.0 plan.until.0 rs
 
 -- ---- how much is expected
 

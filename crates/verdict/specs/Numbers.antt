@@ -1,7 +1,7 @@
 -- Document 01, "Controller verdicts", and 02 i: the numbers of verdicts. Assumes nothing.
 use Rattle.std.specs.Prelude.{ℕ, Option, Some, None}
 use Rattle.verdict.specs.declared.verdicts.Verdict.{Verdict}
-use Rattle.verdict.specs.declared.verdicts.Verdict.TheVariants.{Good, NoResponse, Waiting, Early, Late, NotValid, WrongSync, WrongAddress, MessageError, Busy, Separated, LeftOver, Overlapping}
+use Rattle.verdict.specs.declared.verdicts.Verdict.TheVariants.{Good, NoResponse, Waiting, Early, Late, NotValid, WrongSync, WrongAddress, MessageError, Busy, Separated, LeftOver, Overlapping, Unnamed}
 
 -- "0 good"
 abbrev pub good : ℕ
@@ -59,7 +59,7 @@ overlapping = 12
 abbrev pub last_verdict : ℕ
 last_verdict = 12
 
--- the number of a verdict
+-- the number of a verdict; of one to which no document gives a name, the number that was handed in
 abbrev pub number_of : Verdict → ℕ
 number_of Good = good
 number_of NoResponse = no_response
@@ -74,6 +74,7 @@ number_of Busy = busy
 number_of Separated = separated
 number_of LeftOver = left_over
 number_of Overlapping = overlapping
+number_of (Unnamed number) = number
 
 -- the number of a fact: 0 where none is found
 abbrev pub fact_number : Option Verdict → ℕ

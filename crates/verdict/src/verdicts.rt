@@ -3,35 +3,37 @@
 ghost use Rattle.std.specs.Prelude.{◌≡◌};
 ghost use Rattle.verdict.specs.Numbers.{number_of, last_verdict};
 
-// A verdict, with its number.
+// A verdict, with its number. The judge gives one of those that have a name; whoever hands one in may hand in any number.
 #[derive(Clone, Copy, Debug, PartialEq, Eq)]
 pub enum Verdict {
     // "0 good"
-    Good = 0,
+    Good,
     // "1 no response"
-    NoResponse = 1,
+    NoResponse,
     // "2 still waiting"
-    Waiting = 2,
+    Waiting,
     // "Gap below 40: 3 early."
-    Early = 3,
+    Early,
     // "Above 120: 4 late."
-    Late = 4,
+    Late,
     // "Not valid, sync 2 included: 5."
-    NotValid = 5,
+    NotValid,
     // "Data sync: 6.", of data words "Command sync: 6."
-    WrongSync = 6,
+    WrongSync,
     // "Wrong address: 7."
-    WrongAddress = 7,
+    WrongAddress,
     // "Message error: 8."
-    MessageError = 8,
+    MessageError,
     // "Busy: 9."
-    Busy = 9,
+    Busy,
     // "not 195 to 205 after the last word, or missing ..: 10", narrowed to "10 separated or missing" (02 i)
-    Separated = 10,
+    Separated,
     // "A record left over: 11."
-    LeftOver = 11,
+    LeftOver,
     // "12 overlapping" (02 i)
-    Overlapping = 12,
+    Overlapping,
+    // a number to which no document gives a verdict: none is given so, and one that is handed in is taken as any other
+    Unnamed(u8),
 }
 
 impl Verdict {
@@ -43,7 +45,22 @@ impl Verdict {
     pub fn number(self) -> u8
         ensures number { result ≡ number_of self }
     {
-        self as u8
+        match self {
+            Verdict::Good => 0,
+            Verdict::NoResponse => 1,
+            Verdict::Waiting => 2,
+            Verdict::Early => 3,
+            Verdict::Late => 4,
+            Verdict::NotValid => 5,
+            Verdict::WrongSync => 6,
+            Verdict::WrongAddress => 7,
+            Verdict::MessageError => 8,
+            Verdict::Busy => 9,
+            Verdict::Separated => 10,
+            Verdict::LeftOver => 11,
+            Verdict::Overlapping => 12,
+            Verdict::Unnamed(number) => number,
+        }
     }
 }
 
