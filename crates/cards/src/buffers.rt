@@ -1,7 +1,7 @@
 // The byte buffer of the bench: back, bytes, and what judge, looked and file read.
 use crate::benches::Problem;
 use crate::reasons::Reason;
-use lines::read_hexadecimal;
+use lines::read_digit;
 use records::{RECORD_BYTES, WordRecord};
 
 // "a byte buffer of 65,536 bytes, room for 4,096 records"
@@ -19,8 +19,10 @@ pub(crate) struct Buffer {
 fn fill_part(part: &[u8], room: &mut [u8], start: usize) -> Option<usize> {
     let mut place = start;
     for pair in part.chunks(2) {
-        let byte = u8::try_from(read_hexadecimal(pair, 2)?).ok()?;
-        *room.get_mut(place)? = byte;
+        let &[high, low] = pair else {
+            return None;
+        };
+        *room.get_mut(place)? = (read_digit(high)? << 4) | read_digit(low)?;
         place += 1;
     }
     Some(place)

@@ -27,18 +27,24 @@ pub(crate) enum Reply {
 fn put_next(out: &mut Output, next: Option<Moment>) -> fmt::Result {
     match next {
         Some(moment) => write!(out, " next {}", moment.0),
-        None => write!(out, " next none"),
+        None => {
+            out.put_text(" next none");
+            Ok(())
+        }
     }
 }
 
 // Puts the line of a state.
 fn put_state(out: &mut Output, terminal: Terminal) -> fmt::Result {
+    write!(out, "status ")?;
+    out.put_word(terminal.status().0);
+    write!(out, " last ")?;
+    out.put_word(terminal.last_command().0);
+    write!(out, " sync ")?;
+    out.put_word(terminal.sync_word());
     write!(
         out,
-        "status {:04X} last {:04X} sync {:04X} selftest {} shut {} {} inhibit {} time {}",
-        terminal.status().0,
-        terminal.last_command().0,
-        terminal.sync_word(),
+        " selftest {} shut {} {} inhibit {} time {}",
         u8::from(terminal.wants_selftest()),
         u8::from(terminal.is_shut_down(0)),
         u8::from(terminal.is_shut_down(1)),
@@ -49,48 +55,42 @@ fn put_state(out: &mut Output, terminal: Terminal) -> fmt::Result {
 }
 
 // Puts the line of a last spacing fault.
-fn put_spacing(out: &mut Output, fault: Option<SpacingFault>) -> fmt::Result {
+fn put_spacing(out: &mut Output, fault: Option<SpacingFault>) {
     match fault {
-        None => write!(out, "spacing none"),
-        Some(SpacingFault::Overlapping) => write!(out, "spacing overlapping"),
-        Some(SpacingFault::Separated) => write!(out, "spacing separated"),
+        None => out.put_text("spacing none"),
+        Some(SpacingFault::Overlapping) => out.put_text("spacing overlapping"),
+        Some(SpacingFault::Separated) => out.put_text("spacing separated"),
     }
 }
 
 // Puts the answer that an event carries, with its words: "` answer BUS DUE STATUS N W..W` where an answer is carried".
 fn put_answer(out: &mut Output, answer: Answer) -> fmt::Result {
-    write!(
-        out,
-        " answer {} {} {:04X} {}",
-        answer.bus, answer.due.0, answer.status.0, answer.count
-    )?;
-    for word in answer.words.iter().take(usize::from(answer.count)) {
-        write!(out, " {word:04X}")?;
-    }
+    write!(out, " answer {} {} ", answer.bus, answer.due.0)?;
+    out.put_word(answer.status.0);
+    write!(out, " {}", answer.count)?;
+    let count = usize::from(answer.count).min(answer.words.len());
+    out.put_spaced(&answer.words[..count]);
     Ok(())
 }
 
 // Puts the line of an event: "`ok`, then ..".
 fn put_happened(out: &mut Output, answer: Option<Answer>, cut: bool) -> fmt::Result {
-    write!(out, "ok")?;
+    out.put_text("ok");
     if let Some(answer) = answer {
         put_answer(out, answer)?;
     }
     if cut {
-        write!(out, " cut")?;
+        out.put_text(" cut");
     }
     Ok(())
 }
 
 // Puts words, a space before each but the first.
-fn put_words(out: &mut Output, words: &[u16]) -> fmt::Result {
-    for (place, word) in words.iter().enumerate() {
-        if place > 0 {
-            write!(out, " ")?;
-        }
-        write!(out, "{word:04X}")?;
+fn put_words(out: &mut Output, words: &[u16]) {
+    if let [first, rest @ ..] = words {
+        out.put_word(*first);
+        out.put_spaced(rest);
     }
-    Ok(())
 }
 
 impl Bench {
@@ -100,10 +100,14 @@ impl Bench {
             Reply::Done => write!(out, "ok"),
             Reply::Happened { answer, cut } => put_happened(out, answer, cut),
             Reply::Words(places) => {
-                put_words(out, self.receive.words.get(places).unwrap_or(&[]))
+                put_words(out, self.receive.words.get(places).unwrap_or(&[]));
+                Ok(())
             }
             Reply::State => put_state(out, self.terminal),
-            Reply::Spacing => put_spacing(out, self.terminal.last_spacing_fault()),
+            Reply::Spacing => {
+                put_spacing(out, self.terminal.last_spacing_fault());
+                Ok(())
+            }
             Reply::Verdict(verdict) => write!(out, "verdict {}", verdict.number()),
             Reply::Looked(count) => write!(out, "looked {count}"),
             Reply::Records(count) => write!(out, "records {count}"),

@@ -126,6 +126,9 @@ const USAGES: [Usage; 28] = [
     },
 ];
 
+// how wide the calls stand
+const COLUMN: usize = 40;
+
 impl Usage {
     // Gives the name of the call, and the parts that it wants behind it.
     fn name_and_parts(&self) -> (&'static str, &'static str) {
@@ -159,21 +162,23 @@ pub(crate) fn put_wanted(out: &mut Output, wanted: &[u8]) -> Result<bool, fmt::E
     Ok(known)
 }
 
-// Puts the calls, a line for each.
-fn put_calls(out: &mut Output) -> fmt::Result {
-    writeln!(
-        out,
-        "The calls, one a line. Numbers are decimal, but a word (WORD, C1, C2) is four hexadecimal digits, a MASK eight, a byte two."
-    )?;
+// Puts the calls, a line for each, in two columns. They are put as they are: formatted, `help` takes three quarters more time.
+fn put_calls(out: &mut Output) {
+    out.put_text(
+        "The calls, one a line. Numbers are decimal, but a word (WORD, C1, C2) is four hexadecimal digits, a MASK eight, a byte two.\n",
+    );
     for usage in &USAGES {
-        writeln!(out, "  {:<40}{}", usage.call, usage.what)?;
+        out.put_text("  ");
+        out.put_text(usage.call);
+        out.put_spaces(COLUMN.saturating_sub(usage.call.len()));
+        out.put_text(usage.what);
+        out.put(b'\n');
     }
-    Ok(())
 }
 
 // Writes the calls to standard error: `help`.
 pub(crate) fn write_calls() {
     let mut out = Output::to(Target::Errors);
-    let _ = put_calls(&mut out);
+    put_calls(&mut out);
     let _ = out.flush();
 }
