@@ -1,7 +1,7 @@
 // A plan as far as it is read: its messages with their lines and first frames, the capacities, how many first frames were given and whether one
 // was not, and what is wrong with which line (02 j). Meaning: specs/Drafts.antt. Refusals: none.
 ghost use Rattle.std.specs.Prelude.{◌≡◌, replicate, slice_set};
-ghost use Rattle.plans.specs.Drafts.{empty_draft, with_capacities, with_message, with_first, without_first, with_firsts, with_fault, with_entry, after_entry, is_fault};
+ghost use Rattle.plans.specs.Drafts.{empty_draft, with_capacities, with_message, with_first, without_first, with_firsts, with_fault, after_entry, is_fault};
 
 use crate::entries::{Entry, Fault};
 use schedule::{FRAMES, Frames, Message, Schedule};
@@ -65,54 +65,6 @@ impl Draft {
         self.bad.is_some()
     }
 
-    // Gives the plan with one capacity for all frames.
-    fn with_capacities(self, ticks: u64) -> Draft
-        ensures draft { result ≡ with_capacities self (replicate 64 ticks) }
-    {
-        let mut next = self;
-        next.capacities = [ticks; FRAMES];
-        next
-    }
-
-    // Gives the plan with the capacity of a frame, where there is such a frame.
-    fn with_capacity(self, frame: u64, ticks: u64) -> Draft
-        ensures draft { result ≡ with_capacities self (slice_set self.capacities frame ticks) }
-    {
-        let mut next = self;
-        put(&mut next.capacities, frame, ticks);
-        next
-    }
-
-    // Gives the plan with a message more, which stands on a line.
-    fn with(self, message: Message, line: u64) -> Draft
-        ensures draft { result ≡ with_message self message line }
-    {
-        let mut next = self;
-        let schedule = self.schedule;
-        put(&mut next.lines, schedule.count, line);
-        next.schedule = schedule.with(message);
-        next
-    }
-
-    // Gives the plan with the first frame of the message at a place. One past the 64th has no place there, and is refused with all others.
-    fn with_first(self, place: u64, first: u64) -> Draft
-        ensures draft { result ≡ with_first self place first }
-    {
-        let mut next = self;
-        next.given = wrapping_add_u64(self.given, 1);
-        put(&mut next.firsts, place, first);
-        next
-    }
-
-    // Gives the plan in which a message has no first frame.
-    fn without_first(self) -> Draft
-        ensures draft { result ≡ without_first self }
-    {
-        let mut next = self;
-        next.unplaced = true;
-        next
-    }
-
     // Gives the plan with other first frames.
     // Tables: none. Refusals: none.
     pub fn with_firsts(self, firsts: Frames) -> Draft
@@ -123,40 +75,69 @@ impl Draft {
         next
     }
 
-    // Gives the plan with a bad line.
-    fn failed(self, fault: Fault, line: u64) -> Draft
-        ensures draft { result ≡ with_fault self fault line }
+    // Gives all frames one capacity.
+    fn set_capacities(&mut self, ticks: u64)
+        ensures draft { self.new ≡ with_capacities self.old (replicate 64 ticks) }
     {
-        let mut next = self;
-        next.bad = Some(BadLine { fault, line });
-        next
+        self.capacities = [ticks; FRAMES];
     }
 
-    // Gives the plan with an entry more.
-    #[tactic(auto, unfolding(crate::specs::Drafts::with_entry))]
-    fn with_entry(self, entry: Entry, line: u64) -> Draft
-        ensures draft { result ≡ with_entry self entry line }
+    // Gives a frame its capacity, where there is such a frame.
+    fn set_capacity(&mut self, frame: u64, ticks: u64)
+        ensures draft { self.new ≡ with_capacities self.old (slice_set self.old.capacities frame ticks) }
     {
-        match entry {
-            Entry::Capacities(ticks) => self.with_capacities(ticks),
-            Entry::Capacity(frame, ticks) => self.with_capacity(frame, ticks),
-            Entry::Placed(message, first) => {
-                self.with(message, line)
-                    .with_first(self.schedule.count, first)
-            }
-            Entry::Unplaced(message) => self.with(message, line).without_first(),
-        }
+        put(&mut self.capacities, frame, ticks);
     }
 
-    // Gives the plan with what a line says.
-    #[tactic(auto, unfolding(crate::specs::Drafts::after_entry))]
-    pub(crate) fn take(self, said: Result<Option<Entry>, Fault>, line: u64) -> Draft
-        ensures draft { result ≡ after_entry self said line }
+    // Adds a message, which stands on a line.
+    fn add(&mut self, message: Message, line: u64)
+        ensures draft { self.new ≡ with_message self.old message line }
+    {
+        put(&mut self.lines, self.schedule.count, line);
+        self.schedule = self.schedule.with(message);
+    }
+
+    // Gives the message at a place its first frame. One past the 64th has no place there, and is refused with all others.
+    fn set_first(&mut self, place: u64, first: u64)
+        ensures draft { self.new ≡ with_first self.old place first }
+    {
+        self.given = wrapping_add_u64(self.given, 1);
+        put(&mut self.firsts, place, first);
+    }
+
+    // Says that a message has no first frame.
+    fn leave_first(&mut self)
+        ensures draft { self.new ≡ without_first self.old }
+    {
+        self.unplaced = true;
+    }
+
+    // Says what is bad of a line.
+    fn fail(&mut self, fault: Fault, line: u64)
+        ensures draft { self.new ≡ with_fault self.old fault line }
+    {
+        self.bad = Some(BadLine { fault, line });
+    }
+
+    // Takes in what a line says.
+    #[tactic(auto, unfolding(crate::specs::Drafts::after_entry, crate::specs::Drafts::with_entry))]
+    pub(crate) fn take(&mut self, said: Result<Option<Entry>, Fault>, line: u64)
+        ensures draft { self.new ≡ after_entry self.old said line }
     {
         match said {
-            Ok(Some(entry)) => self.with_entry(entry, line),
-            Ok(None) => self,
-            Err(fault) => self.failed(fault, line),
+            Ok(None) => {}
+            Ok(Some(Entry::Capacities(ticks))) => self.set_capacities(ticks),
+            Ok(Some(Entry::Capacity(frame, ticks))) => self.set_capacity(frame, ticks),
+            Ok(Some(Entry::Placed(message, first))) => {
+                let place = self.schedule.count;
+                self.add(message, line);
+                self.set_first(place, first);
+            }
+            Ok(Some(Entry::Unplaced(message))) => {
+                self.add(message, line);
+                self.leave_first();
+            }
+            Err(fault) => self.fail(fault, line),
         }
     }
 }

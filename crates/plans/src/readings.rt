@@ -14,11 +14,11 @@ pub struct Reading {
     pub more: bool,
 }
 
-// Gives the plan with what the line says as far as it came.
-fn with_line(draft: Draft, gathering: Gathering) -> Draft
-    ensures draft { result ≡ line_taken draft gathering }
+// Takes into the plan what the line says as far as it came. The plan is lent: it has 3 KiB, and most lines change little of it.
+fn take_line(draft: &mut Draft, gathering: Gathering)
+    ensures draft { draft.new ≡ line_taken draft.old gathering }
 {
-    draft.take(gathering.entry(), gathering.number)
+    draft.take(gathering.entry(), gathering.number);
 }
 
 impl Reading {
@@ -46,7 +46,7 @@ impl Reading {
         let mut gathering = self.gathering;
         for byte in chunk {
             if *byte == b'\n' {
-                draft = with_line(draft, gathering);
+                take_line(&mut draft, gathering);
                 if draft.is_bad() {
                     return Reading {
                         draft,
@@ -58,8 +58,9 @@ impl Reading {
             } else {
                 gathering = gathering.take(*byte);
                 if gathering.is_bad() {
+                    take_line(&mut draft, gathering);
                     return Reading {
-                        draft: with_line(draft, gathering),
+                        draft,
                         gathering,
                         more: false,
                     };
@@ -79,9 +80,9 @@ impl Reading {
     pub fn end(self) -> Draft
         ensures draft { result ≡ ended_of self }
     {
-        let draft = self.draft;
+        let mut draft = self.draft;
         if self.more {
-            return with_line(draft, self.gathering);
+            take_line(&mut draft, self.gathering);
         }
         draft
     }

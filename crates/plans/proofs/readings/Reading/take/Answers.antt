@@ -15,7 +15,7 @@ pub returns-then-is_bad : goal.returns-then-is_bad
 returns-then-is_bad c =
     record {
       reading = let l = c.loop-byte in
-          line_bad _ _ _ _ _ l.invariant c.loop-byte-test.true (omega arith) _ c.with_line-draft.ensures.draft _ c.is_bad.ensures.answer c.if-is_bad.true
+          line_bad _ _ _ _ _ l.invariant c.loop-byte-test.true (omega arith) _ c.take_line.ensures.draft _ c.is_bad.ensures.answer c.if-is_bad.true
           ∙ fed_begun c.args.self _ (not-false _ c.if-not-self.false);
     }
 
@@ -24,7 +24,7 @@ returns-then-is_bad-2 c =
     record {
       reading = let l = c.loop-byte in
           byte_bad _ _ _ _ _ l.invariant c.loop-byte-test.true c.if-byte-eq10.false _ c.take-gathering.ensures.line _ c.is_bad-else-byte-eq10.ensures.answer c.if-is_bad-2.true _
-          c.with_line.ensures.draft
+          c.take_line-then-is_bad-2.ensures.draft
           ∙ fed_begun c.args.self _ (not-false _ c.if-not-self.false);
     }
 
@@ -35,7 +35,7 @@ loop-byte-preserved c =
     elim c.if-byte-eq10.branch [
       | then-byte-eq10+else-is_bad w ↦
           rw (w.draft-is, w.gathering-is)
-          (line_good _ _ _ _ _ l.invariant test w.if-byte-eq10.true _ w.with_line-draft.ensures.draft _ w.is_bad.ensures.answer w.if-is_bad.false _ w.next-gathering.ensures.line)
+          (line_good _ _ _ _ _ l.invariant test w.if-byte-eq10.true _ w.take_line.ensures.draft _ w.is_bad.ensures.answer w.if-is_bad.false _ w.next-gathering.ensures.line)
       | else-byte-eq10+else-is_bad-2 w ↦
           rw (w.draft-is, w.gathering-is)
           (byte_good _ _ _ _ _ l.invariant test w.if-byte-eq10.false _ w.take-gathering.ensures.line _ w.is_bad-else-byte-eq10.ensures.answer w.if-is_bad-2.false)
