@@ -2,6 +2,7 @@ pub mod Accepted
 pub mod Awaited
 pub mod Bench
 pub mod Counts
+pub mod Copies
 pub mod Happenings
 pub mod Meanings
 pub mod Places

@@ -37,7 +37,11 @@ fn masks(table: &[u32]) -> [u32; 32]
     ensures masks { result ≡ table.now }
 {
     let mut copy = [0u32; 32];
-    copy.copy_from_slice(table);
+    let mut i = 0;
+    while i < MASKS {
+        copy[i] = table[i];
+        i += 1;
+    }
     copy
 }
 
