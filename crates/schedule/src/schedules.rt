@@ -94,7 +94,7 @@ fn frame_load(messages: &[Message], firsts: &Frames, frame: u64) -> u64
 }
 
 // Fills in the load of each frame.
-pub(crate) fn fill(messages: &[Message], firsts: &Frames, loads: &mut Frames)
+fn fill(messages: &[Message], firsts: &Frames, loads: &mut Frames)
     requires few { length messages.now ≤ messages_most }
     ensures loads { loads.new ≡ loads_of (placed_of messages.now firsts.now) }
 {

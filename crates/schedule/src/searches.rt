@@ -4,7 +4,7 @@ ghost use Rattle.std.specs.Prelude.{◌≤◌, ◌<◌, length, IfSome};
 ghost use Rattle.schedule.specs.Messages.{messages_most};
 
 use crate::messages::Message;
-use crate::schedules::{FRAMES, Frames, fill};
+use crate::schedules::{FRAMES, Frames};
 
 // How often a message is placed or moved at most: 64 to place each once, and the rest to move.
 const STEPS_MOST: u64 = 500;
@@ -145,18 +145,34 @@ impl<'a> Search<'a> {
         self.next_among(Some(frame))
     }
 
+    // Takes what a message loads its frames with from those of one first frame to those of another. So the loads are those of the first frames at each
+    // step, and are not added up anew, which would take 64 times as long.
+    fn shift(&mut self, message: Message, from: u64, to: u64) {
+        let ticks = message.load();
+        for (frame, load) in self.loads.iter_mut().enumerate() {
+            if message.comes_in(from, frame as u64) {
+                *load = load.wrapping_sub(ticks);
+            }
+            if message.comes_in(to, frame as u64) {
+                *load = load.wrapping_add(ticks);
+            }
+        }
+    }
+
     // Puts a message at its cheapest other first frame, and its next turn later by its wait.
     fn place(&mut self, i: usize)
         requires there { i < length self.old.messages.now }
     {
         let message = self.messages[i];
-        self.firsts[i] = self.best_first(message, self.firsts[i]);
+        let before = self.firsts[i];
+        let first = self.best_first(message, before);
+        self.firsts[i] = first;
         self.turns[i] = self.turns[i].saturating_add(message.wait());
+        self.shift(message, before, first);
     }
 
     // Places or moves one message. Says whether there was one: else all are placed, and no frame is overloaded.
     fn step(&mut self) -> bool {
-        fill(self.messages, &self.firsts, &mut self.loads);
         let Some(next) = self.next() else {
             return false;
         };
