@@ -23,6 +23,14 @@ pub(crate) enum Reply {
     Records(u64),
 }
 
+impl Reply {
+    // A call at the terminal has the line of an event that carries nothing.
+    pub(crate) const AT_TERMINAL: Reply = Reply::Happened {
+        answer: None,
+        cut: false,
+    };
+}
+
 // Puts the next moment, or that there is none.
 fn put_next(out: &mut Output, next: Option<Moment>) -> fmt::Result {
     match next {

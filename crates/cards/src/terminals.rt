@@ -52,7 +52,7 @@ impl Bench {
         match made {
             Ok(terminal) => {
                 self.terminal = terminal;
-                Ok(Reply::Done)
+                Ok(Reply::AT_TERMINAL)
             }
             Err(refused) => Err(Problem::Refused(refused.refusal)),
         }
@@ -71,6 +71,6 @@ impl Bench {
             Setting::ClearSelftest => terminal.clear_selftest(),
             Setting::Restart => terminal.restart(),
         };
-        Reply::Done
+        Reply::AT_TERMINAL
     }
 }

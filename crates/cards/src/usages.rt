@@ -162,7 +162,7 @@ pub(crate) fn put_wanted(out: &mut Output, wanted: &[u8]) -> Result<bool, fmt::E
     Ok(known)
 }
 
-// Puts the calls, a line for each, in two columns. They are put as they are: formatted, `help` takes three quarters more time.
+// Puts the calls, a line for each, in two columns. They are put as they are: formatted, `help` takes half again as long.
 fn put_calls(out: &mut Output) {
     out.put_text(
         "The calls, one a line. Numbers are decimal, but a word (WORD, C1, C2) is four hexadecimal digits, a MASK eight, a byte two.\n",
